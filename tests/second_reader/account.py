@@ -51,7 +51,7 @@ class Account:
         self.granted = 0
         self.returned = 0
         self.swung: set[str] = set()
-        self.place = 0
+        self.position = 0
         self.last_reply = [0] * heap.seats
         self.began: dict[int, int] = {}
         self.ended: int | None = None
@@ -63,7 +63,7 @@ class Account:
 
     def keeps(self, entry: Told | Did) -> bool:
         """Whether the entry keeps the rules; adds it to the sums where it does."""
-        self.place += 1
+        self.position += 1
         if isinstance(entry, Told):
             kept = self.told(entry)
         else:
@@ -117,7 +117,7 @@ class Account:
         kept = phase == self.phase + 1 and phase % 7 != 0 and self.all_answered()
         self.phase += 1
         if phase % 7 == 1:
-            self.began[phase // 7] = self.place
+            self.began[phase // 7] = self.position
             self.reached_at_begin = self.graph.reached()
             self.fragment_bound = self.graph.fragments(self.reached_at_begin) + sum(self.footprint)
             self.spine_bound = self.graph.spine_words(self.reached_at_begin)
@@ -157,7 +157,7 @@ class Account:
             return self.collector_told(entry)
         seat = command.party
         kept = self.seat_told(seat, entry)
-        self.last_reply[seat] = self.place
+        self.last_reply[seat] = self.position
         self.footprint[seat] = self.own[seat]
         return kept and self.own[seat] <= (0 if command.name == LEAVE else MOST_OWN)
 

@@ -109,7 +109,7 @@ HISTORY_LINES = (b"0 num 1 %s = ok", b"%s poll = 0", b"0 poll = %s", b"0 new 1 2
 
 
 def long_numbers() -> list[tuple[list[str], bytes]]:
-    """Numbers of 40 digits in each place of a line."""
+    """Numbers of 40 digits in each position of a line."""
     cases = [(["play"], b"schism 1\nheap %s 0 1\n" % LONG), (["check"], b"history 1 play\nheap 1 %s 1\n" % LONG)]
     cases += [(["play"], b"schism 1\nheap 1 0 1\n" + line % LONG + b"\n") for line in SCRIPT_LINES]
     cases += [(["check"], b"history 1 play\nheap 1 0 1\n" + line % LONG + b"\n") for line in HISTORY_LINES]
@@ -120,8 +120,8 @@ def cut_lines() -> list[tuple[list[str], bytes]]:
     """A history of which one line is cut by a byte: each line once."""
     lines = history_text().split(b"\n")[:-1]
     cases = []
-    for place, line in enumerate(lines):
-        cut = lines[:place] + [line[:-1]] + lines[place + 1:]
+    for position, line in enumerate(lines):
+        cut = lines[:position] + [line[:-1]] + lines[position + 1:]
         cases.append((["check"], b"\n".join(cut) + b"\n"))
     return cases
 

@@ -7,19 +7,19 @@ NUMBER = re.compile(rb"[0-9]+")
 ODD_BYTES = b"\x00\r\t 019-.:=c\x80\xff"
 
 
-def place_of(random: Random, things: list | bytes) -> int:
+def position_of(random: Random, things: list | bytes) -> int:
     return random.randrange(len(things)) if things else 0
 
 
 def change_byte(random: Random, text: bytes) -> bytes:
-    place = place_of(random, text)
+    position = position_of(random, text)
     byte = random.choice((random.randrange(256), random.choice(ODD_BYTES)))
-    return text[:place] + bytes([byte]) + text[place + 1:]
+    return text[:position] + bytes([byte]) + text[position + 1:]
 
 
 def cut_byte(random: Random, text: bytes) -> bytes:
-    place = place_of(random, text)
-    return text[:place] + text[place + 1:]
+    position = position_of(random, text)
+    return text[:position] + text[position + 1:]
 
 
 def drop_last_feed(random: Random, text: bytes) -> bytes:
@@ -28,9 +28,9 @@ def drop_last_feed(random: Random, text: bytes) -> bytes:
 
 def add_space(random: Random, text: bytes) -> bytes:
     """Doubles a space, or puts one at a line's begin or end."""
-    places = [match.start() for match in re.finditer(rb"[ \n]", text)] or [0]
-    place = random.choice(places) + random.choice((0, 0, 1))
-    return text[:place] + b" " + text[place:]
+    positions = [match.start() for match in re.finditer(rb"[ \n]", text)] or [0]
+    position = random.choice(positions) + random.choice((0, 0, 1))
+    return text[:position] + b" " + text[position:]
 
 
 def change_number(random: Random, text: bytes) -> bytes:
@@ -71,78 +71,78 @@ def on_lines(change):
 
 @on_lines
 def drop_line(random: Random, lines: list[bytes]) -> None:
-    del lines[place_of(random, lines)]
+    del lines[position_of(random, lines)]
 
 
 @on_lines
 def double_line(random: Random, lines: list[bytes]) -> None:
-    place = place_of(random, lines)
-    lines.insert(place, lines[place])
+    position = position_of(random, lines)
+    lines.insert(position, lines[position])
 
 
 @on_lines
 def copy_line(random: Random, lines: list[bytes]) -> None:
-    lines.insert(place_of(random, lines), lines[place_of(random, lines)])
+    lines.insert(position_of(random, lines), lines[position_of(random, lines)])
 
 
 @on_lines
 def swap_lines(random: Random, lines: list[bytes]) -> None:
-    place = place_of(random, lines)
-    other = random.choice((place_of(random, lines), min(place + 1, len(lines) - 1)))
-    lines[place], lines[other] = lines[other], lines[place]
+    position = position_of(random, lines)
+    other = random.choice((position_of(random, lines), min(position + 1, len(lines) - 1)))
+    lines[position], lines[other] = lines[other], lines[position]
 
 
 @on_lines
 def move_line(random: Random, lines: list[bytes]) -> None:
-    line = lines.pop(place_of(random, lines))
-    lines.insert(place_of(random, lines), line)
+    line = lines.pop(position_of(random, lines))
+    lines.insert(position_of(random, lines), line)
 
 
 @on_lines
 def add_word(random: Random, lines: list[bytes]) -> None:
-    place = place_of(random, lines)
-    words = lines[place].split(b" ")
+    position = position_of(random, lines)
+    words = lines[position].split(b" ")
     word = random.choice((b"0", b"1", b"x", b"", b"poll", random.choice(words)))
     words.insert(random.randint(0, len(words)), word)
-    lines[place] = b" ".join(words)
+    lines[position] = b" ".join(words)
 
 
 @on_lines
 def take_word(random: Random, lines: list[bytes]) -> None:
-    place = place_of(random, lines)
-    words = lines[place].split(b" ")
-    del words[place_of(random, words)]
-    lines[place] = b" ".join(words)
+    position = position_of(random, lines)
+    words = lines[position].split(b" ")
+    del words[position_of(random, words)]
+    lines[position] = b" ".join(words)
 
 
 @on_lines
 def swap_words(random: Random, lines: list[bytes]) -> None:
     """Puts a word of one line in the place of a word of another."""
-    place, other = place_of(random, lines), place_of(random, lines)
-    words, others = lines[place].split(b" "), lines[other].split(b" ")
-    words[place_of(random, words)] = others[place_of(random, others)]
-    lines[place] = b" ".join(words)
+    position, other = position_of(random, lines), position_of(random, lines)
+    words, others = lines[position].split(b" "), lines[other].split(b" ")
+    words[position_of(random, words)] = others[position_of(random, others)]
+    lines[position] = b" ".join(words)
 
 
 @on_lines
 def exchange_replies(random: Random, lines: list[bytes]) -> None:
-    places = [place for place, line in enumerate(lines) if b" = " in line]
-    if len(places) < 2:
+    positions = [position for position, line in enumerate(lines) if b" = " in line]
+    if len(positions) < 2:
         return
-    place, other = random.sample(places, 2)
-    command, reply = lines[place].split(b" = ", 1)
+    position, other = random.sample(positions, 2)
+    command, reply = lines[position].split(b" = ", 1)
     other_command, other_reply = lines[other].split(b" = ", 1)
-    lines[place], lines[other] = command + b" = " + other_reply, other_command + b" = " + reply
+    lines[position], lines[other] = command + b" = " + other_reply, other_command + b" = " + reply
 
 
 @on_lines
 def move_last_lines(random: Random, lines: list[bytes]) -> None:
     """Puts the space line or the end line somewhere else."""
-    places = [place for place, line in enumerate(lines) if line.startswith((b"space", b"end"))]
-    if not places:
+    positions = [position for position, line in enumerate(lines) if line.startswith((b"space", b"end"))]
+    if not positions:
         return
-    line = lines.pop(random.choice(places))
-    lines.insert(place_of(random, lines), line)
+    line = lines.pop(random.choice(positions))
+    lines.insert(position_of(random, lines), line)
 
 
 COARSE = (change_byte, cut_byte, drop_last_feed, add_space, change_number, drop_line, double_line, swap_lines, add_word,

@@ -89,7 +89,7 @@ class Collector:
         yield None
 
     def grey(self, group: int) -> int:
-        return self.table.part(group, MARKED) & ~self.table.part(group, SCANNED)
+        return self.table.mask(group, MARKED) & ~self.table.mask(group, SCANNED)
 
     def scans(self, fragment: int) -> Iterator[Turn]:
         """The words of a grey fragment, and the blacken."""
@@ -133,7 +133,7 @@ class Collector:
     def copies(self, phase: int) -> Iterator[Turn]:
         """Visits each group, and inspects what is marked there."""
         for group in range(self.table.heap.groups):
-            marked = self.table.part(group, MARKED)
+            marked = self.table.mask(group, MARKED)
             yield None
             for bit in bits_of(marked):
                 yield from self.inspects(16 * group + bit, phase // 7 % 2)
@@ -168,7 +168,7 @@ class Collector:
 
     def sweeps(self, phase: int) -> Iterator[Turn]:
         for group in range(self.table.heap.groups):
-            dead = self.table.part(group, BORN) & ~self.table.part(group, MARKED)
+            dead = self.table.mask(group, BORN) & ~self.table.mask(group, MARKED)
             yield None
             if dead:
                 yield from self.frees(group, dead)
@@ -193,7 +193,7 @@ class Collector:
         """Clears the marks of each group, and ends the cycle."""
         kept = 0
         for group in range(self.table.heap.groups):
-            kept += self.table.part(group, TAKEN).bit_count()
+            kept += self.table.mask(group, TAKEN).bit_count()
             self.table.clear_bits(group, 0xFFFF, MARKED, SCANNED)
             yield None
         self.table.words[PHASE] = phase + 1

@@ -31,9 +31,9 @@ def shown(answer: Answer, other: Answer) -> str:
             continue
         lines, others = mine.split(b"\n"), its.split(b"\n")
         pairs = zip(lines, others)
-        place = next((i for i, (line, one) in enumerate(pairs) if line != one), min(len(lines), len(others)))
-        line = lines[place] if place < len(lines) else b""
-        return f"{status}, line {place + 1} of its {name} {line[:SHOWN]!r}"
+        position = next((i for i, (line, one) in enumerate(pairs) if line != one), min(len(lines), len(others)))
+        line = lines[position] if position < len(lines) else b""
+        return f"{status}, line {position + 1} of its {name} {line[:SHOWN]!r}"
     return status
 
 

@@ -150,10 +150,10 @@ class Grower:
 
     def grow(self, proposals: int) -> History:
         """Adds what is right of so many proposals, and now and then a last one that isn't."""
-        space_place = self.random.randrange(2 * proposals) if self.played else None
-        for place in range(proposals):
-            line = self.space() if place == space_place else self.proposal()
-            if not self.add(line) and (place == space_place or self.random.random() < WRONG_ENDS):
+        space_position = self.random.randrange(2 * proposals) if self.played else None
+        for position in range(proposals):
+            line = self.space() if position == space_position else self.proposal()
+            if not self.add(line) and (position == space_position or self.random.random() < WRONG_ENDS):
                 self.body.append(line)
                 break
         if self.played and not any(isinstance(line, Space) for line in self.body):

@@ -146,7 +146,7 @@ def read_body(lines: list[bytes], heap: Heap, played: bool) -> list[Entry | Spac
     """Reads the lines from the third on, up to the end line, which has to be the last."""
     body: list[Entry | Space | End] = []
     space_seen = False
-    for place, line in enumerate(lines, 3):
+    for position, line in enumerate(lines, 3):
         words = line.split(b" ")
         read: Entry | Space | End | None
         if body and isinstance(body[-1], End):
@@ -159,9 +159,9 @@ def read_body(lines: list[bytes], heap: Heap, played: bool) -> list[Entry | Spac
         else:
             read = read_entry(words, heap, played)
         if read is None:
-            raise Refused(place, "BadEntry")
-        if place >= TOO_MANY_LINES:
-            raise Refused(place, "HistoryLines")
+            raise Refused(position, "BadEntry")
+        if position >= TOO_MANY_LINES:
+            raise Refused(position, "HistoryLines")
         body.append(read)
     if not body or not isinstance(body[-1], End):
         raise Refused(len(lines) + 3, "NoEnd")

@@ -41,9 +41,9 @@ class Judge:
 def judged(history: History) -> int:
     """The number of a legal history's entries."""
     judge = Judge(history)
-    for place, line in enumerate(history.body, 3):
+    for position, line in enumerate(history.body, 3):
         if not judge.accepts(line):
-            raise NotLegal(place)
+            raise NotLegal(position)
     return len(history.entries())
 
 

@@ -9,7 +9,7 @@ CYCLE_TO_SIX = (*CYCLE_TO_FIVE, "0 answers 5", "c phase 6", "0 answers 6")
 
 
 def play(heap: str, *entries: str, used: int, spine: int = 0, bad: int | None = LEGAL) -> tuple[str, int | None, int]:
-    """A play with the right space and end lines; `bad` is the place among the entries, from 1, that isn't right."""
+    """A play with the right space and end lines; `bad` is the position among the entries, from 1, that isn't right."""
     groups, budget, _ = (int(word) for word in heap.split(" "))
     lines = ["history 1 play", f"heap {heap}", *entries,
              f"space used {used} of {16 * groups} spine {spine} of {budget}", f"end used {used}"]

@@ -66,7 +66,7 @@ class Machine:
                 return reply
 
     def steady_turns(self, told: int) -> None:
-        """The turns behind a seat's line, whose entries stand from this place on."""
+        """The turns behind a seat's line, whose entries stand from this position on."""
         taken = sum(entry.values[0] for entry in self.body[told:] if isinstance(entry, Did) and entry.kind == "takes")
         self.turns(min(STEADY_TURNS + TURNS_A_FRAGMENT * taken, MOST_STEADY_TURNS))
 

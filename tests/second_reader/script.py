@@ -97,28 +97,28 @@ def read_party(word: bytes, heap: Heap, played: bool) -> int | str | None:
     return seat if seat is not None and seat < heap.seats else None
 
 
-def read_command(place: int, line: bytes, heap: Heap, played: bool) -> Command:
-    """Reads the line at this place of a script."""
-    if place > MOST_LINES:
-        raise Refused(place, "TooManyLines")
+def read_command(position: int, line: bytes, heap: Heap, played: bool) -> Command:
+    """Reads the line at this position of a script."""
+    if position > MOST_LINES:
+        raise Refused(position, "TooManyLines")
     words = line.split(b" ")
     party = read_party(words[0], heap, played)
     if party is None:
-        raise Refused(place, "NoSeat")
+        raise Refused(position, "NoSeat")
     commands = COLLECTOR_COMMANDS if party == COLLECTOR else SEAT_COMMANDS
     name = words[1].decode("latin-1") if len(words) > 1 else ""
     if name not in commands:
-        raise Refused(place, "NoCommand")
+        raise Refused(position, "NoCommand")
     operands = []
     for i, (least, largest) in enumerate(commands[name]):
         number = number_of(words[2 + i], SCRIPT_DIGITS) if len(words) > 2 + i else None
         if number is None:
-            raise Refused(place, "BadNumber")
+            raise Refused(position, "BadNumber")
         if not least <= number <= largest:
-            raise Refused(place, "OutOfRange")
+            raise Refused(position, "OutOfRange")
         operands.append(number)
     if len(words) > 2 + len(operands):
-        raise Refused(place, "TooManyWords")
+        raise Refused(position, "TooManyWords")
     return Command(party, name, tuple(operands))
 
 
@@ -126,5 +126,5 @@ def read_script(text: bytes, played: bool) -> Script:
     """Reads a script; one that is to be played may have lines for the collector."""
     lines = lines_of(text)
     heap = read_header(lines, (b"schism 1",))
-    commands = [read_command(place, line, heap, played) for place, line in enumerate(lines[2:], 3)]
+    commands = [read_command(position, line, heap, played) for position, line in enumerate(lines[2:], 3)]
     return Script(heap, commands)

@@ -89,9 +89,9 @@ class Seat:
 
     def bear(self, destination: int, fragments: list[int], name: int) -> Reply:
         """Gives birth to an object, whose first fragment the register then holds."""
-        parts = (BORN, MARKED, SCANNED) if 2 <= self.answered() % 7 <= 5 else (BORN,)
-        for group, mask in masks_of(fragments).items():
-            self.table.set_bits(group, mask, *parts)
+        masks = (BORN, MARKED, SCANNED) if 2 <= self.answered() % 7 <= 5 else (BORN,)
+        for group, bits in masks_of(fragments).items():
+            self.table.set_bits(group, bits, *masks)
         self.registers[destination] = cell(REFERENCE, fragments[0])
         return Reply("made", (id_of(name),))
 

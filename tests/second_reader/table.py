@@ -14,7 +14,7 @@ GRANTED = 17
 SPOT = 18
 FIRST_CONTROL = 19
 
-# The parts of a control word, by their lowest bit.
+# The masks of a control word, by their lowest bit.
 TAKEN, BORN, MARKED, SCANNED = 0, 16, 32, 48
 ALL = 0xFFFF
 
@@ -98,20 +98,20 @@ class Table:
 
     # Control words.
 
-    def part(self, group: int, part: int) -> int:
-        return self.words[FIRST_CONTROL + group] >> part & ALL
+    def mask(self, group: int, mask: int) -> int:
+        return self.words[FIRST_CONTROL + group] >> mask & ALL
 
-    def set_bits(self, group: int, mask: int, *parts: int) -> None:
-        for part in parts:
-            self.words[FIRST_CONTROL + group] |= mask << part
+    def set_bits(self, group: int, bits: int, *masks: int) -> None:
+        for mask in masks:
+            self.words[FIRST_CONTROL + group] |= bits << mask
 
-    def clear_bits(self, group: int, mask: int, *parts: int) -> None:
-        for part in parts:
-            self.words[FIRST_CONTROL + group] &= ~(mask << part)
+    def clear_bits(self, group: int, bits: int, *masks: int) -> None:
+        for mask in masks:
+            self.words[FIRST_CONTROL + group] &= ~(bits << mask)
 
     def claim(self, group: int) -> list[int]:
         """Takes all that is free in a group."""
-        free = ALL & ~self.part(group, TAKEN)
+        free = ALL & ~self.mask(group, TAKEN)
         self.set_bits(group, ALL, TAKEN)
         return [16 * group + bit for bit in bits_of(free)]
 
@@ -119,7 +119,7 @@ class Table:
         self.set_bits(fragment // 16, 1 << fragment % 16, MARKED)
 
     def taken(self) -> int:
-        return sum(self.part(group, TAKEN).bit_count() for group in range(self.heap.groups))
+        return sum(self.mask(group, TAKEN).bit_count() for group in range(self.heap.groups))
 
     # Fragments.
 

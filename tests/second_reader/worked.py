@@ -23,7 +23,7 @@ STEADY = ["play", "--pace", "steady"]
 
 
 def turn_by_turn(random: Random) -> str:
-    """Each line of the collector makes one turn, so that each entry's place tells the turn that told it."""
+    """Each line of the collector makes one turn, so that each entry's position tells the turn that told it."""
     heap = Heap(random.choice((4, 5)), random.choice((12, 40)), 2)
     drawer = Drawer(random, heap, False)
     commands = []

@@ -5,12 +5,12 @@ use Rattle.std.specs.Prelude.{option_map}
 use Rattle.heap_model.specs.Heap.{IsHeap}
 use Rattle.heap_model.specs.declared.heap.Heap.{Heap}
 use Rattle.core_machine.specs.Moves.{Move, move_at, due_step, seat_after, seat_after_due, is_last_birth, bearing_move}
-use Rattle.core_machine.specs.declared.place.Making.TheVariants.{Placing, Listing, Storing, Bearing}
-use Rattle.core_machine.specs.declared.place.Place.{Place}
-use Rattle.core_machine.specs.declared.place.Place.TheVariants as places
+use Rattle.core_machine.specs.declared.point.Making.TheVariants.{Placing, Listing, Storing, Bearing}
+use Rattle.core_machine.specs.declared.point.Point.{Point}
+use Rattle.core_machine.specs.declared.point.Point.TheVariants as points
 use Rattle.core_machine.specs.declared.step.Step.{Step}
 use Rattle.core_machine.specs.seat.Fits.{Fits}
-use Rattle.core_machine.specs.seat.Making.{store_place}
+use Rattle.core_machine.specs.seat.Making.{store_point}
 use Rattle.core_machine.specs.seat.Seat.{Seat, spine_need}
 use Rattle.core_machine.specs.calls.Owes.{owes, owes_at, steps_left}
 use Rattle.core_machine.proofs.seat_lemmas.Fitting.{listing_cases}
@@ -21,31 +21,31 @@ use Rattle.heap_table.specs.Told.{ToldAtStep}
 use Rattle.heap_table.proofs.MadeSteps.{makes_no_steps, step_leaves_fewer, step_leaves_room, step_owes_within_most, step_makes_one_more}
 use Rattle.array_spine.specs.Bearing.{BeginsPlacing}
 
--- the places from that of the spine's claim on, and that behind them
-abbrev pub StandsPlacing : Place → Type 0
-StandsPlacing (places.Making Placing) = Unit {0}
-StandsPlacing (places.Making Listing) = Unit {0}
-StandsPlacing (places.Making Storing) = Unit {0}
-StandsPlacing (places.Making Bearing) = Unit {0}
-StandsPlacing places.Idle = Unit {0}
+-- the points from that of the spine's claim on, and that behind them
+abbrev pub StandsPlacing : Point → Type 0
+StandsPlacing (points.Making Placing) = Unit {0}
+StandsPlacing (points.Making Listing) = Unit {0}
+StandsPlacing (points.Making Storing) = Unit {0}
+StandsPlacing (points.Making Bearing) = Unit {0}
+StandsPlacing points.Idle = Unit {0}
 StandsPlacing _ = ⊥
 
 -- while the array is placed, stored and born: no more entries are added than were owed
 pub record WhilePlacing (first now : SeatHeld) : Type 0 where
   pub steps : (made : List Made) × MakesSteps first now made
   pub sound : IsSound now
-  pub stands : StandsPlacing now.seat.place
+  pub stands : StandsPlacing now.seat.point
   pub reserve_stays : now.seat.reserve ≡ first.seat.reserve
   pub paid : owes now.seat + length now.seat.mine ≤ 1 + length first.seat.mine
   pub room : owes now.seat + 2 ≤ now.spare
 
 pub while_placing_at_begin : (held : SeatHeld) (fragments : List ℕ) (cells words d : ℕ) → BeginsPlacing held fragments cells words d → IsSound held → 3 ≤ held.spare → WhilePlacing held held
 while_placing_at_begin held fragments cells words d begins sound room =
-    let owed : owes held.seat ≡ 1 = ap (owes_at held.seat) begins.place_is in
+    let owed : owes held.seat ≡ 1 = ap (owes_at held.seat) begins.point_is in
     record {
       steps = ([], makes_no_steps held);
       sound = sound;
-      stands = subst StandsPlacing (sym begins.place_is) tt;
+      stands = subst StandsPlacing (sym begins.point_is) tt;
       reserve_stays = refl;
       paid = omega (arith, owed);
       room = omega (arith, owed, room);
@@ -59,31 +59,31 @@ sound_on now new found sound stepped told = record {
   fits = subst (λ (h : Heap). Fits h new.seat) (sym stepped.heap_stays) (subst (Fits now.heap) (sym stepped.seat_is) told.fits);
 }
 
--- each of these steps leads to such a place, and leaves the reserve
+-- each of these steps leads to such a point, and leaves the reserve
 abbrev StandsOn : Seat → Seat → Type 0
-StandsOn seat next = StandsPlacing next.place × (next.reserve ≡ seat.reserve)
+StandsOn seat next = StandsPlacing next.point × (next.reserve ≡ seat.reserve)
 
-stands_on : (heap : Heap) (number : ℕ) (seat : Seat) (found : ℕ) (place : Place) → seat.place ≡ place → StandsPlacing place → StandsOn seat (seat_after_due seat (move_at heap number seat place) found)
-stands_on heap number seat found (places.Making Placing) is stands = (tt, refl)
-stands_on heap number seat found (places.Making Listing) is stands =
-    (listing_cases (λ m. StandsPlacing (places.Making m)) (seat.listed + 1) (spine_need seat) (λ more. tt) (λ all. tt), refl)
-stands_on heap number seat found (places.Making Storing) is stands = (
-  elim (eqb_tells (seat.stored + 1) (4 * length seat.body)) as (λ _. StandsPlacing (places.Making (store_place (seat.stored + 1) seat.body))) [ inl all ↦ rw all.0 tt | inr left ↦ rw left.0 tt ],
+stands_on : (heap : Heap) (number : ℕ) (seat : Seat) (found : ℕ) (point : Point) → seat.point ≡ point → StandsPlacing point → StandsOn seat (seat_after_due seat (move_at heap number seat point) found)
+stands_on heap number seat found (points.Making Placing) is stands = (tt, refl)
+stands_on heap number seat found (points.Making Listing) is stands =
+    (listing_cases (λ m. StandsPlacing (points.Making m)) (seat.listed + 1) (spine_need seat) (λ more. tt) (λ all. tt), refl)
+stands_on heap number seat found (points.Making Storing) is stands = (
+  elim (eqb_tells (seat.stored + 1) (4 * length seat.body)) as (λ _. StandsPlacing (points.Making (store_point (seat.stored + 1) seat.body))) [ inl all ↦ rw all.0 tt | inr left ↦ rw left.0 tt ],
   refl,
 )
-stands_on heap number seat found (places.Making Bearing) is stands =
+stands_on heap number seat found (points.Making Bearing) is stands =
     elim (true_or_false (is_last_birth seat)) as (λ _. StandsOn seat (seat_after (bearing_move number seat) found)) [
       | inl last ↦ rw last (tt, refl)
       | inr more ↦ rw more (subst StandsPlacing (sym is) tt, refl)
     ]
-stands_on heap number seat found places.Idle is stands = (subst StandsPlacing (sym is) tt, refl)
+stands_on heap number seat found points.Idle is stands = (subst StandsPlacing (sym is) tt, refl)
 stands_on heap number seat found _ is stands = absurd stands
 
 pub while_placing_after_step : (first now new : SeatHeld) (step : Step) (found : ℕ) → WhilePlacing first now → due_step now.heap now.number now.seat ≡ Some step → IsStepped now new found
     → ToldAtStep now.heap now.number now.seat found → WhilePlacing first new × (steps_left new.heap new.seat < steps_left now.heap now.seat)
 while_placing_after_step first now new step found while due stepped told =
     let sound = while.sound in
-    let on = subst (λ (s : Seat). StandsOn now.seat s) (sym stepped.seat_is) (stands_on now.heap now.number now.seat found now.seat.place refl while.stands) in (
+    let on = subst (λ (s : Seat). StandsOn now.seat s) (sym stepped.seat_is) (stands_on now.heap now.number now.seat found now.seat.point refl while.stands) in (
       record {
         steps = step_makes_one_more first now new step found sound due stepped told while.steps;
         sound = sound_on now new found sound stepped told;
@@ -96,17 +96,17 @@ while_placing_after_step first now new step found while due stepped told =
     )
 
 -- once no step is due the call is over
-pub placing_over_is_idle : (held : SeatHeld) → due_step held.heap held.number held.seat ≡ None → held.seat.place ≡ places.Idle
-placing_over_is_idle held none = by held.seat.place none
+pub placing_over_is_idle : (held : SeatHeld) → due_step held.heap held.number held.seat ≡ None → held.seat.point ≡ points.Idle
+placing_over_is_idle held none = by held.seat.point none
   where
-    by : (place : Place) → option_map (λ (m : Move). m.step) (move_at held.heap held.number held.seat place) ≡ None → place ≡ places.Idle
-    by places.Idle none = refl
-    by (places.Making place) none = cc
-    by places.Local none = cc
-    by (places.Access place) none = cc
-    by (places.Polling place) none = cc
-    by (places.Collecting place) none = cc
-    by (places.Leaving place) none = cc
+    by : (point : Point) → option_map (λ (m : Move). m.step) (move_at held.heap held.number held.seat point) ≡ None → point ≡ points.Idle
+    by points.Idle none = refl
+    by (points.Making point) none = cc
+    by points.Local none = cc
+    by (points.Access point) none = cc
+    by (points.Polling point) none = cc
+    by (points.Collecting point) none = cc
+    by (points.Leaving point) none = cc
 
 -- and has added one entry at most
 pub placing_adds_one_entry : (first held : SeatHeld) → WhilePlacing first held → length held.seat.mine ≤ 1 + length first.seat.mine

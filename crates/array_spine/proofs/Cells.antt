@@ -4,12 +4,12 @@ use Rattle.std.specs.Prelude.{option_map}
 use Rattle.heap_words.specs.Spot.{spot_in}
 use Rattle.heap_model.specs.declared.entry.Entry.{Entry}
 use Rattle.core_machine.specs.Moves.{Move, move_at, due_step, seat_after_due}
-use Rattle.core_machine.specs.declared.place.Place.{Place}
-use Rattle.core_machine.specs.declared.place.Place.TheVariants as places
+use Rattle.core_machine.specs.declared.point.Point.{Point}
+use Rattle.core_machine.specs.declared.point.Point.TheVariants as points
 use Rattle.core_machine.specs.declared.step.SpineStep.TheVariants.{AddressLoad, WordLoad}
 use Rattle.core_machine.specs.declared.step.Step.{Step}
 use Rattle.core_machine.specs.declared.step.Step.TheVariants.{Spine}
-use Rattle.core_machine.specs.declared.place.Access.TheVariants.{LoadingSpot}
+use Rattle.core_machine.specs.declared.point.Access.TheVariants.{LoadingSpot}
 use Rattle.core_machine.specs.seat.Commands.{field_of}
 use Rattle.core_machine.specs.seat.Registers.{register_head}
 use Rattle.core_machine.specs.seat.Access.{after_address, after_index, at_payload}
@@ -17,7 +17,7 @@ use Rattle.core_machine.specs.seat.Seat.{Seat, with_entries}
 use Rattle.core_rule.specs.cycle.Flight.{WhileAccess}
 use Rattle.core_rule.specs.told.Reached.{ReachesInBook}
 use Rattle.heap_table.specs.Made.{Made, MakesSteps}
-use Rattle.core_machine.proofs.seat_lemmas.FieldPlaces.{field_place_cases}
+use Rattle.core_machine.proofs.seat_lemmas.FieldPoints.{field_point_cases}
 use Rattle.heap_table.specs.SeatHeld.{SeatHeld, IsStepped}
 use Rattle.heap_table.specs.Told.{ToldAtStep}
 use Rattle.heap_table.proofs.MadeSteps.{while_access_has_reached, makes_one_step, makes_steps_of_append, found_in_first_step, found_in_longer_steps}
@@ -42,12 +42,12 @@ module _ (old mid new : SeatHeld) (sentinel index address word : ℕ) (begins : 
 
   address_due : due_step old.heap old.number old.seat ≡ Some (Spine (AddressLoad sentinel))
   address_due =
-      ap (λ (p : Place). option_map (λ (m : Move). m.step) (move_at old.heap old.number old.seat p)) begins.place_is
+      ap (λ (p : Point). option_map (λ (m : Move). m.step) (move_at old.heap old.number old.seat p)) begins.point_is
       ∙ ap (λ (n : ℕ). Some (Spine (AddressLoad n))) begins.sentinel_is
 
   located : mid.seat ≡ after_address old.seat address
   located =
-      stepped.seat_is ∙ ap (λ (p : Place). seat_after_due old.seat (move_at old.heap old.number old.seat p) address) begins.place_is
+      stepped.seat_is ∙ ap (λ (p : Point). seat_after_due old.seat (move_at old.heap old.number old.seat p) address) begins.point_is
       ∙ no_entries (after_address old.seat address)
 
   word_due : due_step mid.heap mid.number mid.seat ≡ Some word_step
@@ -57,20 +57,20 @@ module _ (old mid new : SeatHeld) (sentinel index address word : ℕ) (begins : 
 
   indexed : new.seat ≡ after_index (after_address old.seat address) word
   indexed =
-      stepped_then.seat_is ∙ ap (λ (s : Seat). seat_after_due s (move_at mid.heap mid.number s s.place) word) located ∙ no_entries (after_index (after_address old.seat address) word)
+      stepped_then.seat_is ∙ ap (λ (s : Seat). seat_after_due s (move_at mid.heap mid.number s s.point) word) located ∙ no_entries (after_index (after_address old.seat address) word)
 
   -- the call's register holds the array with this first fragment
   holds_first : HoldsHead old.seat sentinel
   holds_first =
-      let reached : ReachesInBook old.heap old.number old.seat address LoadingSpot = subst (WhileAccess (ReachesInBook old.heap old.number old.seat address)) begins.place_is told.tells.reached in
+      let reached : ReachesInBook old.heap old.number old.seat address LoadingSpot = subst (WhileAccess (ReachesInBook old.heap old.number old.seat address)) begins.point_is told.tells.reached in
       let array = reached.there.reaches in
       ap register_head array.on.holds ∙ ap (λ (n : ℕ). Some n) (sym array.on.in_order ∙ begins.sentinel_is)
 
   -- the seat is at its cell
-  pub seat_is_at_cell : IsAtField new.seat.place
+  pub seat_is_at_cell : IsAtField new.seat.point
   seat_is_at_cell =
       let there = at_payload (after_address old.seat address) word in
-      subst (λ (s : Seat). IsAtField s.place) (sym indexed) (field_place_cases (λ a. IsAtField (places.Access a)) there there.command tt (λ on. tt) (λ off. tt))
+      subst (λ (s : Seat). IsAtField s.point) (sym indexed) (field_point_cases (λ a. IsAtField (points.Access a)) there there.command tt (λ on. tt) (λ off. tt))
 
   -- and the place that it has reached is that of the cell
   pub reached_place_is_cells : IsPlaceOfField new sentinel index new.seat.reached new.seat.part

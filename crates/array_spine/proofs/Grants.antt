@@ -8,9 +8,9 @@ use Rattle.heap_model.specs.declared.heap.Heap.{Heap}
 use Rattle.core_machine.specs.Moves.{Move, move_at, due_step, seat_after_due, refusal_step}
 use Rattle.core_machine.specs.calls.Claims.{IsGranted}
 use Rattle.core_machine.specs.calls.Kept.{WasMade}
-use Rattle.core_machine.specs.declared.place.Making.TheVariants.{Withdrawing}
-use Rattle.core_machine.specs.declared.place.Place.{Place}
-use Rattle.core_machine.specs.declared.place.Place.TheVariants as places
+use Rattle.core_machine.specs.declared.point.Making.TheVariants.{Withdrawing}
+use Rattle.core_machine.specs.declared.point.Point.{Point}
+use Rattle.core_machine.specs.declared.point.Point.TheVariants as points
 use Rattle.core_machine.specs.declared.step.SpineStep.TheVariants.{BudgetAdd, BudgetTakeBack}
 use Rattle.core_machine.specs.declared.step.Step.{Step}
 use Rattle.core_machine.specs.declared.step.Step.TheVariants.{Spine}
@@ -29,19 +29,19 @@ no_entries : (seat : Seat) → with_entries seat [] ≡ seat
 no_entries seat = ap (λ (mine : List Entry). record seat { mine = mine }) (append-nil seat.mine)
 
 -- a seat that gathers takes nothing back
-gathers_on : (heap : Heap) (seat : Seat) → is_withdrawing (gather_next heap seat).place ≡ false
+gathers_on : (heap : Heap) (seat : Seat) → is_withdrawing (gather_next heap seat).point ≡ false
 gathers_on heap seat =
-    goes_on_cases (λ s. is_withdrawing s.place ≡ false) heap seat
-    (λ enough. settled_cases (λ m. is_withdrawing (places.Making m) ≡ false) seat.command (λ an_array. refl) (λ other. refl))
+    goes_on_cases (λ s. is_withdrawing s.point ≡ false) heap seat
+    (λ enough. settled_cases (λ m. is_withdrawing (points.Making m) ≡ false) seat.command (λ an_array. refl) (λ other. refl))
     (λ lacks left. refl)
-    (λ lacks all. returning_cases (λ m. is_withdrawing (places.Making m) ≡ false) seat.hand (λ none. refl) (λ some. refl))
+    (λ lacks all. returning_cases (λ m. is_withdrawing (points.Making m) ≡ false) seat.hand (λ none. refl) (λ some. refl))
 
 differ : true ≡ false → ⊥
 differ e = cc
 
 -- the seat that has asked for too many words
 abbrev asked_for_too_many : Seat → ℕ → Seat
-asked_for_too_many seat found = record seat { used = found; place = places.Making Withdrawing }
+asked_for_too_many seat found = record seat { used = found; point = points.Making Withdrawing }
 
 module _ (old mid : SeatHeld) (words found : ℕ) (begins : BeginsGranting old words) (stepped : IsStepped old mid found) (told : ToldAtStep old.heap old.number old.seat found) where
   abbrev asks : Made
@@ -50,39 +50,39 @@ module _ (old mid : SeatHeld) (words found : ℕ) (begins : BeginsGranting old w
   -- the words are asked for
   add_due : due_step old.heap old.number old.seat ≡ Some (Spine (BudgetAdd words))
   add_due =
-      ap (λ (p : Place). option_map (λ (m : Move). m.step) (move_at old.heap old.number old.seat p)) begins.place_is
+      ap (λ (p : Point). option_map (λ (m : Move). m.step) (move_at old.heap old.number old.seat p)) begins.point_is
       ∙ ap (λ (n : ℕ). Some (Spine (BudgetAdd n))) begins.words_are
 
   asked : mid.seat ≡ after_budget old.heap old.seat found
   asked =
-      stepped.seat_is ∙ ap (λ (p : Place). seat_after_due old.seat (move_at old.heap old.number old.seat p) found) begins.place_is
+      stepped.seat_is ∙ ap (λ (p : Point). seat_after_due old.seat (move_at old.heap old.number old.seat p) found) begins.point_is
       ∙ no_entries (after_budget old.heap old.seat found)
 
   makes_asked : MakesSteps old mid (asks ∷ [])
   makes_asked = makes_one_step old mid (Spine (BudgetAdd words)) found add_due told stepped
 
-  withdraws : (b : Bool) → is_withdrawing mid.seat.place ≡ b → is_withdrawing (after_budget old.heap old.seat found).place ≡ b
-  withdraws b is = ap (λ (s : Seat). is_withdrawing s.place) (sym asked) ∙ is
+  withdraws : (b : Bool) → is_withdrawing mid.seat.point ≡ b → is_withdrawing (after_budget old.heap old.seat found).point ≡ b
+  withdraws b is = ap (λ (s : Seat). is_withdrawing s.point) (sym asked) ∙ is
 
   -- where nothing is to be taken back they were granted
-  pub made_steps_are_granted : is_withdrawing mid.seat.place ≡ false → (made : List Made) × MakesSteps old mid made × IsGranted (FoundIn made) old.heap old.seat.command
+  pub made_steps_are_granted : is_withdrawing mid.seat.point ≡ false → (made : List Made) × MakesSteps old mid made × IsGranted (FoundIn made) old.heap old.seat.command
   made_steps_are_granted is = (
     asks ∷ [],
     makes_asked,
     record {
       word = found;
       told = subst (λ (n : ℕ). FoundIn (asks ∷ []) (Spine (BudgetAdd n)) found) (sym begins.words_are) (found_in_first_step [] asks);
-      enough = budget_cases (λ s. is_withdrawing s.place ≡ false → found + spine_need old.seat ≤ old.heap.spine) old.heap old.seat found (λ lacks e. absurd (differ e)) (λ grants e. grants) (withdraws false is);
+      enough = budget_cases (λ s. is_withdrawing s.point ≡ false → found + spine_need old.seat ≤ old.heap.spine) old.heap old.seat found (λ lacks e. absurd (differ e)) (λ grants e. grants) (withdraws false is);
     },
   )
 
   -- else they are too many, and are taken back
-  too_many : is_withdrawing mid.seat.place ≡ true → (old.heap.spine < found + spine_need old.seat) × (after_budget old.heap old.seat found ≡ asked_for_too_many old.seat found)
+  too_many : is_withdrawing mid.seat.point ≡ true → (old.heap.spine < found + spine_need old.seat) × (after_budget old.heap old.seat found ≡ asked_for_too_many old.seat found)
   too_many is =
-      budget_cases (λ s. is_withdrawing s.place ≡ true → (old.heap.spine < found + spine_need old.seat) × (s ≡ asked_for_too_many old.seat found)) old.heap old.seat found (λ lacks e. (lacks, refl))
+      budget_cases (λ s. is_withdrawing s.point ≡ true → (old.heap.spine < found + spine_need old.seat) × (s ≡ asked_for_too_many old.seat found)) old.heap old.seat found (λ lacks e. (lacks, refl))
       (λ grants e. absurd (differ (sym e ∙ gathers_on old.heap old.seat))) (withdraws true is)
 
-  pub made_steps_are_turned_down : (new : SeatHeld) (found_then : ℕ) (full : SpineFull) → is_withdrawing mid.seat.place ≡ true → IsStepped mid new found_then → ToldAtStep mid.heap mid.number mid.seat found_then
+  pub made_steps_are_turned_down : (new : SeatHeld) (found_then : ℕ) (full : SpineFull) → is_withdrawing mid.seat.point ≡ true → IsStepped mid new found_then → ToldAtStep mid.heap mid.number mid.seat found_then
       → full.need ≡ words → full.used ≡ found → (made : List Made) × MakesSteps old new made × IsTurnedDown made old.heap full
   made_steps_are_turned_down new found_then full is stepped_then told_then need_is used_is =
       let takes_back : Made = record { step = Spine (BudgetTakeBack words); found = found_then } in
@@ -112,7 +112,7 @@ pub made_steps_take_back : (old new : SeatHeld) (words found : ℕ) → BeginsDr
 made_steps_take_back old new words found begins stepped told =
     let takes_back : Made = record { step = Spine (BudgetTakeBack words); found = found } in
     let due : due_step old.heap old.number old.seat ≡ Some (Spine (BudgetTakeBack words)) =
-    ap (λ (p : Place). option_map (λ (m : Move). m.step) (move_at old.heap old.number old.seat p)) begins.place_is
+    ap (λ (p : Point). option_map (λ (m : Move). m.step) (move_at old.heap old.number old.seat p)) begins.point_is
     ∙ ap (λ (s : Step). Some s) (array_takes_back old.seat.command (spine_need old.seat) begins.an_array)
     ∙ ap (λ (n : ℕ). Some (Spine (BudgetTakeBack n))) begins.words_are in
     (takes_back ∷ [], makes_one_step old new (Spine (BudgetTakeBack words)) found due told stepped, (found, found_in_first_step [] takes_back))

@@ -15,10 +15,10 @@ use Rattle.core_machine.specs.calls.Kept.{Kept, kept_of, WasMade}
 use Rattle.core_machine.specs.calls.Making.{HasSpine, name_after, HasStored, AreBorn}
 use Rattle.core_machine.specs.calls.OwnStage.{StageAt}
 use Rattle.core_machine.specs.calls.Replies.{StandsOn, IsMade}
-use Rattle.core_machine.specs.declared.place.Making.TheVariants.{Placing}
-use Rattle.core_machine.specs.declared.place.Place.TheVariants as places
+use Rattle.core_machine.specs.declared.point.Making.TheVariants.{Placing}
+use Rattle.core_machine.specs.declared.point.Point.TheVariants as points
 use Rattle.core_machine.specs.declared.step.Step.{Step}
-use Rattle.core_machine.specs.seat.Fits.{FitsPlace}
+use Rattle.core_machine.specs.seat.Fits.{FitsPoint}
 use Rattle.core_machine.specs.seat.Seat.{Seat}
 use Rattle.heap_table.specs.Made.{Made, FoundIn, MakesSteps, IsSound}
 use Rattle.heap_table.specs.SeatHeld.{SeatHeld}
@@ -60,18 +60,18 @@ made_of tells heap number d cells before kept first (replies.Full need found) en
 made_of tells heap number d cells before kept first (replies.SpineFull need used) enough fewer stands = absurd (omega (arith, fewer, ap (λ (k : Kept). length k.reserve) stands.keeps))
 
 module _ (made : List Made) (old new : SeatHeld) (fragments : List ℕ) (cells words d : ℕ) (begins : BeginsPlacing old fragments cells words d) (sound : IsSound old) (makes : MakesSteps old new made)
-    (over : new.seat.place ≡ places.Idle) (stays : new.seat.reserve ≡ old.seat.reserve) where
+    (over : new.seat.point ≡ points.Idle) (stays : new.seat.reserve ≡ old.seat.reserve) where
   abbrev tells : Step → ℕ → Type 0
   tells = TellsHere made
 
   abbrev before : Seat
   before = brought old.seat
 
-  fits_there : FitsPlace old.heap old.seat (places.Making Placing)
-  fits_there = subst (FitsPlace old.heap old.seat) begins.place_is sound.fits.at_place
+  fits_there : FitsPoint old.heap old.seat (points.Making Placing)
+  fits_there = subst (FitsPoint old.heap old.seat) begins.point_is sound.fits.at_point
 
-  begins_so : StageAt tells old.heap old.number (kept_of before) old.seat [] old.seat.place
-  begins_so = subst (StageAt tells old.heap old.number (kept_of before) old.seat []) (sym begins.place_is)
+  begins_so : StageAt tells old.heap old.number (kept_of before) old.seat [] old.seat.point
+  begins_so = subst (StageAt tells old.heap old.number (kept_of before) old.seat []) (sym begins.point_is)
       (brought_has_object tells old sound fits_there.0.0.whole (λ an_array. record { word = 0; told = inr tt; enough = omega (arith, begins.granted, begins.words_are) }))
 
   was : WasAnswered tells old new (Array d cells)

@@ -5,15 +5,15 @@ use Rattle.heap_words.specs.declared.spot.Spot.{Spot}
 use Rattle.heap_model.specs.declared.command.Command.{Command}
 use Rattle.heap_model.specs.declared.command.Command.TheVariants.{Array}
 use Rattle.core_machine.specs.calls.Making.{HasSpine, HasStored}
-use Rattle.core_machine.specs.declared.place.Making.TheVariants.{Placing}
-use Rattle.core_machine.specs.declared.place.Place.TheVariants as places
+use Rattle.core_machine.specs.declared.point.Making.TheVariants.{Placing}
+use Rattle.core_machine.specs.declared.point.Point.TheVariants as points
 use Rattle.core_machine.specs.seat.Seat.{spine_need}
 use Rattle.heap_table.specs.Made.{Made, FoundIn}
 use Rattle.heap_table.specs.SeatHeld.{SeatHeld}
 
 -- the call in flight makes an array of so many cells for this register, which has these fragments; so many spine words were granted to it, which have no place yet
 pub record BeginsPlacing (held : SeatHeld) (fragments : List ℕ) (cells words d : ℕ) : Type 0 where
-  pub place_is : held.seat.place ≡ places.Making Placing
+  pub point_is : held.seat.point ≡ points.Making Placing
   pub command_is : held.seat.command ≡ Array d cells
   pub body_is : held.seat.body ≡ fragments
   pub words_are : spine_need held.seat ≡ words

@@ -2,8 +2,8 @@
 use Rattle.std.specs.Prelude.{◌≡◌, ℕ, ◌+◌, ◌/◌, ◌%◌, List}
 use Rattle.heap_words.specs.Loaded.{payload_in}
 use Rattle.heap_words.specs.Spot.{spot_in}
-use Rattle.core_machine.specs.declared.place.Access.TheVariants.{LoadingSpot}
-use Rattle.core_machine.specs.declared.place.Place.TheVariants as places
+use Rattle.core_machine.specs.declared.point.Access.TheVariants.{LoadingSpot}
+use Rattle.core_machine.specs.declared.point.Point.TheVariants as points
 use Rattle.core_machine.specs.declared.step.SpineStep.TheVariants.{AddressLoad, WordLoad}
 use Rattle.core_machine.specs.declared.step.Step.TheVariants.{Spine}
 use Rattle.core_machine.specs.seat.Commands.{field_of}
@@ -12,7 +12,7 @@ use Rattle.heap_table.specs.SeatHeld.{SeatHeld}
 
 -- the call in flight has loaded the meta of an array with this first fragment, which has the call's cell, and is about to load where its spine stands
 pub record BeginsLocating (held : SeatHeld) (sentinel index : ℕ) : Type 0 where
-  pub place_is : held.seat.place ≡ places.Access LoadingSpot
+  pub point_is : held.seat.point ≡ points.Access LoadingSpot
   pub sentinel_is : held.seat.reached ≡ sentinel
   pub index_is : field_of held.seat.command ≡ index
   pub part_is : held.seat.part ≡ index % 4

@@ -3,7 +3,7 @@ ghost use Rattle.heap_model.specs.declared.entry.Entry.TheVariants.{Said};
 ghost use Rattle.heap_model.specs.declared.reply.Reply.TheVariants.{Full as TellsFull, SpineFull as TellsSpineFull};
 ghost use Rattle.core_machine.specs.calls.Claims.{IsGranted};
 ghost use Rattle.core_machine.specs.calls.Kept.{KeepsAll, kept_of, WasMade};
-ghost use Rattle.core_machine.specs.declared.place.Place.TheVariants.{Idle};
+ghost use Rattle.core_machine.specs.declared.point.Point.TheVariants.{Idle};
 ghost use Rattle.core_machine.specs.declared.step.SpineStep.TheVariants.{BudgetTakeBack};
 ghost use Rattle.core_machine.specs.declared.step.Step.TheVariants.{Spine};
 ghost use Rattle.core_machine.specs.seat.Making.{gather_next};
@@ -11,7 +11,7 @@ ghost use Rattle.core_machine.specs.seat.Seat.{need};
 ghost use Rattle.heap_table.specs.Made.{Made, FoundIn, MakesSteps};
 ghost use Rattle.array_spine.specs.Granting.{BeginsGranting, BeginsDropping, IsTurnedDown, is_withdrawing as is_withdrawing_at};
 
-use core_machine::{Entries, Making, Place, SpineStep, Step};
+use core_machine::{Entries, Making, Point, SpineStep, Step};
 use heap_table::Holder;
 
 /// The spine words that were granted to the array which a call makes.
@@ -28,10 +28,10 @@ pub struct SpineFull {
 }
 
 /// Whether the words that were asked for are too many, and are to be taken back.
-fn is_withdrawing(place: Place) -> bool
-    ensures { result ≡ is_withdrawing_at place }
+fn is_withdrawing(point: Point) -> bool
+    ensures { result ≡ is_withdrawing_at point }
 {
-    matches!(place, Place::Making(Making::Withdrawing))
+    matches!(point, Point::Making(Making::Withdrawing))
 }
 
 /// Asks for the spine words of the array that the call in flight makes. Where they are too many beside those that it found to be granted or asked for,
@@ -47,10 +47,10 @@ pub fn take_budget<L: Entries>(holder: &mut Holder<L>, words: u16) -> Result<Bud
     ensures need { IfErr result (λ full. full.need ≡ words) }
     ensures told { IfErr result (λ full. holder.new.seat.mine ≡ holder.old.seat.mine ++ Said holder.old.number holder.old.seat.command (TellsSpineFull full.need full.used) ∷ []) }
     ensures kept { OnErr result (KeepsAll (kept_of holder.old.seat) (kept_of holder.new.seat)) }
-    ensures over { OnErr result (holder.new.seat.place ≡ Idle) }
+    ensures over { OnErr result (holder.new.seat.point ≡ Idle) }
 {
     let used = holder.step(&Step::Spine(SpineStep::BudgetAdd { words }));
-    if !is_withdrawing(holder.party().place()) {
+    if !is_withdrawing(holder.party().point()) {
         return Ok(Budget { words });
     }
     holder.step(&Step::Spine(SpineStep::BudgetTakeBack { words }));
@@ -68,7 +68,7 @@ pub fn drop_budget<L: Entries>(holder: &mut Holder<L>, budget: Budget)
     ensures told { holder.new.seat.mine ≡ holder.old.seat.mine
         ++ Said holder.old.number holder.old.seat.command (TellsFull (need holder.old.seat) (length holder.old.seat.reserve + holder.old.seat.given)) ∷ [] }
     ensures kept { KeepsAll (kept_of holder.old.seat) (kept_of holder.new.seat) }
-    ensures over { holder.new.seat.place ≡ Idle }
+    ensures over { holder.new.seat.point ≡ Idle }
 {
     let words = budget.words;
     holder.step(&Step::Spine(SpineStep::BudgetTakeBack { words }));

@@ -1,4 +1,4 @@
-//! A call's part on the shared table: spine words are asked for and taken back, arrays are stored and born, and their cells are reached through the spine.
+//! Steps of a call on the shared table: spine words are asked for and taken back, arrays are stored and born, and their cells are reached through the spine.
 #![tactic(auto)]
 
 mod bearing;

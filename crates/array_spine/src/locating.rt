@@ -16,7 +16,7 @@ pub fn cell_at<L: Entries>(holder: &mut Holder<L>, sentinel: u16, index: u16) ->
     ensures steps { (made : List Made) × MakesSteps holder.old holder.new made × IsNamedBySpine made sentinel index result.fragment }
     ensures part { result.part ≡ index % 4 }
     ensures reached { (holder.new.seat.reached ≡ result.fragment) × (holder.new.seat.part ≡ result.part) }
-    ensures past { IsAtField holder.new.seat.place }
+    ensures past { IsAtField holder.new.seat.point }
     ensures field { IsPlaceOfField holder.new sentinel index result.fragment result.part }
     ensures room { 3 ≤ holder.new.spare }
 {

@@ -1,4 +1,4 @@
--- A whole call, place by place, to its reply.
+-- A whole call, point by point, to its reply.
 pub mod Asking
 pub mod Awaits
 pub mod CallEnd

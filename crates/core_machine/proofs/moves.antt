@@ -14,22 +14,22 @@ pub mod Local
 pub mod Walk
 use Rattle.std.proofs.Common.{◌≡◌, ℕ, ◌^◌, ◌<◌, Option, Some, None, length, refl, subst}
 use Rattle.std.specs.Prelude.{IfSome, option_map}
-use Rattle.core_machine.proofs.Terms.{Heap, IsHeap, Granting, Withdrawing, Gathering, GivingBack, Refusing, Placing, Listing, Storing, Bearing, Place, LoadingMeta, Walking}
+use Rattle.core_machine.proofs.Terms.{Heap, IsHeap, Granting, Withdrawing, Gathering, GivingBack, Refusing, Placing, Listing, Storing, Bearing, Point, LoadingMeta, Walking}
 use Rattle.core_machine.proofs.Terms.{LoadingSpot, Indexing, Getting, Naming, LoadingOld, ShadingOld, ShadingNew, Swapping, Move, next_move, due_step, seat_after, Step, Nears, owes}
 use Rattle.core_machine.proofs.Terms.{steps_left, FoundPointsWithin, address_of, Fits, Seat, Command, MayBegin, after_begin}
-use Rattle.core_machine.proofs.kinds.{place_kind}
+use Rattle.core_machine.proofs.kinds.{point_kind}
 use Rattle.core_machine.proofs.seat_lemmas.FittingEntries.{fits_with_entries}
 use Rattle.heap_model.specs.declared.command.Command.TheVariants as commands
-use Rattle.core_machine.proofs.moves.Standing.{MoveStands, PlaceStands, BeginStands, CommandStands}
+use Rattle.core_machine.proofs.moves.Standing.{MoveStands, PointStands, BeginStands, CommandStands}
 
 -- the move that is due
-pub due_move_stands : (heap : Heap) (number : ℕ) (seat : Seat) → IsHeap heap → number < 16 → Fits heap seat → IfSome (next_move heap number seat) (MoveStands heap number seat seat.place)
-due_move_stands heap number seat limits few fits = (place_kind seat.place).stands heap number seat
-    record { limits = limits; few = few; fits = fits; placed = refl; hand = fits.at_place; way = fits.way_at_place; answer = fits.answer_at_place }
+pub due_move_stands : (heap : Heap) (number : ℕ) (seat : Seat) → IsHeap heap → number < 16 → Fits heap seat → IfSome (next_move heap number seat) (MoveStands heap number seat seat.point)
+due_move_stands heap number seat limits few fits = (point_kind seat.point).stands heap number seat
+    record { limits = limits; few = few; fits = fits; point_is = refl; hand = fits.at_point; way = fits.way_at_point; answer = fits.answer_at_point }
 
 -- so it is with a move that is known
-pub due_stands : (heap : Heap) (number : ℕ) (seat : Seat) (move : Move) → IsHeap heap → number < 16 → Fits heap seat → next_move heap number seat ≡ Some move → MoveStands heap number seat seat.place move
-due_stands heap number seat move limits few fits due = subst (λ m. IfSome m (MoveStands heap number seat seat.place)) due (due_move_stands heap number seat limits few fits)
+pub due_stands : (heap : Heap) (number : ℕ) (seat : Seat) (move : Move) → IsHeap heap → number < 16 → Fits heap seat → next_move heap number seat ≡ Some move → MoveStands heap number seat seat.point move
+due_stands heap number seat move limits few fits due = subst (λ m. IfSome m (MoveStands heap number seat seat.point)) due (due_move_stands heap number seat limits few fits)
 
 -- the seat's data fit together after it, with its entries, where the word that it found leads within the heap
 pub due_fits : (heap : Heap) (number : ℕ) (seat : Seat) (move : Move) (found : ℕ) → IsHeap heap → number < 16 → Fits heap seat → next_move heap number seat ≡ Some move

@@ -18,10 +18,10 @@ use Rattle.std.proofs.Common.{◌≡◌, ℕ, ◌^◌, ◌<◌, List, [], ◌∷
 use Rattle.std.specs.Prelude.{IfSome}
 use Rattle.core_machine.proofs.Terms.{IsHeap, Command, Entry, Heap, Move, next_move, due_step, seat_after, seat_after_due, Nears, owes, steps_left, FoundPointsWithin, address_of}
 use Rattle.core_machine.proofs.Terms.{Kept, kept_of, StageAt, OwnStage, LoadingMeta, Walking, LoadingSpot, Indexing, Getting, Naming, LoadingOld, ShadingOld, ShadingNew, Swapping}
-use Rattle.core_machine.proofs.Terms.{Granting, Withdrawing, Gathering, GivingBack, Refusing, Placing, Listing, Storing, Bearing, Place, Step, MayBegin, after_begin, Fits, Seat}
-use Rattle.core_machine.proofs.kinds.{place_kind}
+use Rattle.core_machine.proofs.Terms.{Granting, Withdrawing, Gathering, GivingBack, Refusing, Placing, Listing, Storing, Bearing, Point, Step, MayBegin, after_begin, Fits, Seat}
+use Rattle.core_machine.proofs.kinds.{point_kind}
 use Rattle.core_machine.proofs.moves.{due_step_is_moves, due_fits, due_nears}
-use Rattle.core_machine.proofs.own_stages.Leading.{Leads, LeadsOn, PlaceLeads}
+use Rattle.core_machine.proofs.own_stages.Leading.{Leads, LeadsOn, PointLeads}
 
 module _ (tells : Step → ℕ → Type 0) where
   -- a call that stands so goes on to stand so, whatever word its next step finds of which so much is told
@@ -31,8 +31,8 @@ module _ (tells : Step → ℕ → Type 0) where
   own_leads heap number command old seat told move found limits few fits next tell is =
       let leads : Leads tells heap number (kept_of old) seat told move found =
       subst (λ (m : Option Move). IfSome m (LeadsOn tells heap number (kept_of old) seat told)) next
-      ((place_kind seat.place).leads tells heap number (kept_of old) seat told
-      (record { limits = limits; few = few; fits = fits; placed = refl; hand = fits.at_place; way = fits.way_at_place; answer = fits.answer_at_place }) is.stage) found tell in
+      ((point_kind seat.point).leads tells heap number (kept_of old) seat told
+      (record { limits = limits; few = few; fits = fits; point_is = refl; hand = fits.at_point; way = fits.way_at_point; answer = fits.answer_at_point }) is.stage) found tell in
       record {
         same = leads.same ∙ is.same;
         mine = ap (λ (l : List Entry). l ++ move.adds found) (leads.kept ∙ is.mine) ∙ append_assoc old.mine told (move.adds found);

@@ -1,6 +1,6 @@
 -- A seat's own data fit together, whatever move it makes.
 pub mod Aside
-pub mod FieldPlaces
+pub mod FieldPoints
 pub mod Fitting
 pub mod FittingEntries
 pub mod FittingAccess

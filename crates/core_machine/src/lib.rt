@@ -4,7 +4,7 @@
 mod collector;
 mod log;
 mod machine;
-mod place;
+mod point;
 mod seat;
 mod step;
 mod table;
@@ -19,7 +19,7 @@ pub use log::told::ToldLog;
 pub use log::{CountsEntries, Entries, ShowsLast, ShowsRecent};
 pub use machine::Machine;
 pub use machine::opening::opening_words;
-pub use place::{Access, Collecting, Leaving, Making, Place, Polling};
+pub use point::{Access, Collecting, Leaving, Making, Point, Polling};
 pub use seat::SeatParty;
 pub use seat::collecting::noted;
 pub use seat::looks::Looks;

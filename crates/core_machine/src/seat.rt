@@ -5,7 +5,7 @@ ghost use Rattle.core_machine.specs.machine.Opening.{opening_seat};
 
 use crate::log::Entries;
 use crate::log::kept::Log;
-use crate::place::Place;
+use crate::point::Point;
 use crate::seat::hands::Hands;
 use crate::seat::looks::Looks;
 use crate::seat::register::Register;
@@ -50,7 +50,7 @@ pub struct SeatParty<L: Entries = Log> {
     pub(crate) spine: Spot,
     pub(crate) listed: u16,
     pub(crate) command: Command,
-    pub(crate) place: Place,
+    pub(crate) point: Point,
     pub(crate) answered: u64,
     pub(crate) made: u32,
     pub(crate) reached: u16,
@@ -85,7 +85,7 @@ impl<L: Entries> Model for SeatParty<L> {
         spine = party.spine;
         listed = party.listed;
         command = party.command;
-        place = party.place;
+        point = party.point;
         answered = party.answered;
         made = party.made;
         reached = party.reached;
@@ -128,7 +128,7 @@ impl<L: Entries> SeatParty<L> {
             spine: NO_SPOT,
             listed: 0,
             command: Command::Poll,
-            place: Place::Idle,
+            point: Point::Idle,
             answered: 0,
             made: 0,
             reached: 0,
@@ -179,7 +179,7 @@ impl<L: Entries> SeatParty<L> {
         self.used = 0;
         self.spine = NO_SPOT;
         self.listed = 0;
-        self.place = Place::Idle;
+        self.point = Point::Idle;
         self.reached = 0;
         self.links = 0;
         self.part = 0;

@@ -133,7 +133,7 @@ pub enum TurningStep {
     Blacken { fragment: u16 },
     /// The first word of a dead fragment is loaded.
     MetaLoad { fragment: u16 },
-    /// These fragments are taken no longer, nor part of an object. Bit `j` of `bits` is fragment `j` of the group.
+    /// These fragments are taken no longer, nor an object's. Bit `j` of `bits` is fragment `j` of the group.
     Free { group: u16, bits: u16 },
     /// No fragment of the group is marked any longer, nor scanned.
     Clear { group: u16 },

@@ -26,26 +26,26 @@ pub use Rattle.heap_model.specs.graph.Legal.{Accepts, AcceptsAll, IsObjectLegal,
 pub use Rattle.heap_model.specs.graph.Objects.{absent_graph_seat, cell_at, cell_or_refusal, graph_seat, node, or_no_field, register_value, target_node}
 pub use Rattle.heap_model.specs.graph.Reach.{IsBefore, IsMade, IsReach, IsRegistered, IsRoot, Points, PointsTo, Reaches, from_cell, from_register}
 pub use Rattle.heap_model.specs.graph.Sizes.{fragments_at, fragments_of, fragments_of_all, spine_words_at, spine_words_of, spine_words_of_all}
-pub use Rattle.core_machine.specs.Moves.{Move, access_move, birth_move, claim_move, due_step, full_entry, give_back_move, grant_move, is_last_birth, last_birth_move, last_part, listing_move, made_entry, move_at, next_move, placing_move, refusal_looks, refusal_move, refusal_step, seat_after_due, spine_full_entry, store_move, takes_some, withdraw_move}
+pub use Rattle.core_machine.specs.Moves.{Move, access_move, birth_move, claim_move, due_step, full_entry, give_back_move, grant_move, is_last_birth, last_birth_move, hand_run, listing_move, made_entry, move_at, next_move, placing_move, refusal_looks, refusal_move, refusal_step, seat_after_due, spine_full_entry, store_move, takes_some, withdraw_move}
 pub use Rattle.core_machine.specs.collector.Collector.{Collector, after_advance, after_counted_look, after_last_look, after_look, first_work, has_answered_of, next_turn, opening_collector, turn_at}
 pub use Rattle.core_machine.specs.collector.FitsTurns.{FitsCopying, HasCleared, HasLooked, IsBlackening, IsClearing, IsCopying, IsExamining, IsFreeing, IsIndexing, IsAddressing, IsMarking, IsPassing, IsReturning, IsScanning, IsShading, IsSpreading, IsSweeping}
 pub use Rattle.core_machine.specs.declared.collector.stage.Stage.{Stage}
-pub use Rattle.core_machine.specs.declared.place.Access.TheVariants.{Getting, Indexing, LoadingMeta, LoadingOld, ShadingNew, ShadingOld, Swapping, Walking}
-pub use Rattle.core_machine.specs.declared.place.Making.TheVariants.{Bearing, Gathering, Granting, Listing, Placing, Refusing, GivingBack, Withdrawing}
-pub use Rattle.core_machine.specs.declared.place.Place.{Place}
+pub use Rattle.core_machine.specs.declared.point.Access.TheVariants.{Getting, Indexing, LoadingMeta, LoadingOld, ShadingNew, ShadingOld, Swapping, Walking}
+pub use Rattle.core_machine.specs.declared.point.Making.TheVariants.{Bearing, Gathering, Granting, Listing, Placing, Refusing, GivingBack, Withdrawing}
+pub use Rattle.core_machine.specs.declared.point.Point.{Point}
 pub use Rattle.core_machine.specs.declared.seat.register.Register.{Register}
 pub use Rattle.core_machine.specs.declared.table.address.Address.TheVariants.{Budget, Control, Spine, Word}
 pub use Rattle.core_machine.specs.machine.Machine.{Begins, BeginsInner, Can, Event, MayBegin, MayBeginInner, Run, State, Steps, Turns, after_begin, after_inner_begin, call_start, entries, entries_shown, found_by, history, seat_at, state_after, state_after_all, state_after_due, state_after_move, state_after_turn}
 unfoldable pub use Rattle.core_machine.specs.machine.Sums.{sum_upto}
 pub use Rattle.core_machine.specs.machine.Value.{IsMachine, MachineValue, log_of}
-pub use Rattle.core_machine.specs.seat.Access.{access_start, after_get, after_index, after_length, after_link, after_meta, after_old, after_old_load, after_walk, at_access, at_payload, field_place_of, has_barrier_of, meta_reply_of, new_place_of, part_of, row_of, way_place_of, with_field_place}
+pub use Rattle.core_machine.specs.seat.Access.{access_start, after_get, after_index, after_length, after_link, after_meta, after_old, after_old_load, after_walk, at_access, at_payload, field_point_of, has_barrier_of, meta_reply_of, new_point_of, part_of, row_of, way_point_of, with_field_place}
 pub use Rattle.core_machine.specs.seat.Commands.{IsArrayCall, IsRecordCall, IsServed, MakesObject, field_of, object_of, source_of, target_of}
-pub use Rattle.core_machine.specs.seat.Fits.{AreFragments, Fits, FitsPlace, FitsWay, HandFits, HasArrayBody, HasBody, HasNoSpine, IsAtRest, IsLocal, IsSilent, MakesNext, SeatIsGathering, SeatIsRefusing, SeatIsWithdrawing, SpineIsListed}
-pub use Rattle.core_machine.specs.seat.Making.{after_budget, after_claim, after_give_back, after_last_birth, after_listing, after_store, before_run, first_group_of, fragments_gathered, gather_next, last_claimed, last_group_of, last_run, list_place, newborn_word, newborn_word_of, next_group_of, next_name, next_object_id, refusal_place, run_of, settled_place, store_place}
+pub use Rattle.core_machine.specs.seat.Fits.{AreFragments, Fits, FitsPoint, FitsWay, HandFits, HasArrayBody, HasBody, HasNoSpine, IsAtRest, IsLocal, IsSilent, MakesNext, SeatIsGathering, SeatIsRefusing, SeatIsWithdrawing, SpineIsListed}
+pub use Rattle.core_machine.specs.seat.Making.{after_budget, after_claim, after_give_back, after_last_birth, after_listing, after_store, before_run, first_group_of, fragments_gathered, gather_next, last_claimed, last_group_of, last_run, list_point, newborn_word, newborn_word_of, next_group_of, next_name, next_object_id, refusal_point, run_of, settled_point, store_point}
 pub use Rattle.core_machine.specs.seat.Registers.{heads_of, is_same_id, is_same_value, register_head, register_in, register_word, value_of}
 pub use Rattle.core_machine.specs.seat.Seat.{HasNumberLeft, Seat, absent_seat, after_call, call_over, need, no_spot, seat_after_reply, spine_need, with_entries, with_seen}
 pub use Rattle.core_machine.specs.table.Decode.{id_of, id_of_owner, plain_of, plain_register, spine_words_in}
-pub use Rattle.core_machine.specs.table.Fragments.{clear_in, in_group, is_clear, out_of_group, part_in, part_out, tally}
+pub use Rattle.core_machine.specs.table.Fragments.{clear_in, in_group, is_clear, out_of_group, inside_group, outside_group, tally}
 unfoldable pub use Rattle.core_machine.specs.table.Fragments.{clear_among, mask_of}
 pub use Rattle.core_machine.specs.table.Layout.{FitsSpot, HasWord, InTable, index_of, spine_place, table_length}
 unfoldable pub use Rattle.core_machine.specs.table.Layout.{at, put}
@@ -63,7 +63,7 @@ pub use Rattle.core_rule.specs.gather.Gathers.{Began, GathersRight, IsAnswered, 
 pub use Rattle.core_rule.specs.graph.Registers.{HoldsValue, IsAwaited, Registers}
 pub use Rattle.core_rule.specs.halves.Halves.{AwaitsCopy, AwaitsVisit, HalvesStand, IsBeforeNext, IsEarlyRange, IsLeaving, IsLeftBehind, IsToVisit, WhileCopying, half_at, is_advancing}
 pub use Rattle.core_rule.specs.hand.Holding.{Holding, IsStored, fragments_in_hand}
-pub use Rattle.core_rule.specs.marking.Marking.{AfterMarking, ComesAfter, IsFewCopied, IsFewWords, IsPart, IsSeen, IsSeenWhole, IsSpineOf, MarkingStands, MayMark, PassStands, ScanStands}
+pub use Rattle.core_rule.specs.marking.Marking.{AfterMarking, ComesAfter, IsFewCopied, IsFewWords, IsKeptFragment, IsSeen, IsSeenWhole, IsSpineOf, MarkingStands, MayMark, PassStands, ScanStands}
 pub use Rattle.core_rule.specs.marking.Paths.{Edge, Guarded, IsGuarded, IsReached, IsWhite, from_grey, from_white}
 pub use Rattle.core_rule.specs.marking.Sweep.{AreCleared, AreDead, AreFreed, DeadTell, HasMarked, IsSettled, SweepStands, TellsWords}
 pub use Rattle.core_rule.specs.objects.Objects.{AreMade, FitsName, IsKept, IsSized, KeptObject, NamesKept, Objects, cells_at, field_word, is_cell, name_of, node_at, node_in, object_word, value_word}

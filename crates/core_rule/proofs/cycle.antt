@@ -1,4 +1,4 @@
--- The heap's and a seat's part in a cycle.
+-- The heap's and a seat's standing in a cycle.
 pub mod CycleFrames
 pub mod CycleHistory
 pub mod Unwatched

@@ -1,4 +1,4 @@
--- What is held is alive: a seat's, or a part of a kept object.
+-- What is held is alive: a seat's, or a fragment of a kept object.
 pub mod Alive
 pub mod Holders
 pub mod BodyWords

@@ -1,5 +1,5 @@
 -- The fragments and the spine words of kept objects, counted.
-pub mod KeptParts
+pub mod KeptFragments
 pub mod KeptSums
 pub mod KeptReached
 pub mod NewWords

@@ -2,7 +2,7 @@
 pub mod SumLemmas
 pub mod Tallies
 pub mod Members
-pub mod Parts
+pub mod GroupLists
 pub mod OrderedLists
 pub mod Options
 pub mod Decided

@@ -1,4 +1,4 @@
--- What seats find by the inner calls of their collects, as histories grow; and from where seats come to two of their places.
+-- What seats find by the inner calls of their collects, as histories grow; and from where seats come to two of their points.
 pub mod Words
 pub mod Growth
 pub mod Finding

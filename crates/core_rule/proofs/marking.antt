@@ -15,8 +15,8 @@ pub mod Ended
 pub mod SettledObjects
 pub mod SettledSeats
 pub mod SettledBook
-pub mod GreyPlaces
+pub mod GreyPositions
 pub mod Scans
 pub mod ScannedWords
 pub mod SweepMarks
-pub mod DeadPlaces
+pub mod DeadPositions

@@ -1,8 +1,8 @@
--- Each turn that neither waits nor ends a cycle leaves fewer turns, a file for each part of a cycle.
+-- Each turn that neither waits nor ends a cycle leaves fewer turns, a file for each stretch of a cycle.
 pub mod ScannedCounts
 pub mod FewWords
 pub mod Lefts
-pub mod NextPlaces
+pub mod NextPositions
 pub mod WorkCases
 pub mod LookTurns
 pub mod MarkingTurns

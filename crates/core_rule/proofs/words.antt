@@ -8,7 +8,7 @@ pub mod ClearLemmas
 pub mod ControlLemmas
 pub mod ControlSteps
 pub mod MarkBits
-pub mod MarkedPlaces
+pub mod MarkedPositions
 pub mod SetBits
 pub mod SweepBits
 pub mod SweepWords

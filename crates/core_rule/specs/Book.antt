@@ -36,7 +36,7 @@ pub record Book : Type 0 where
 abbrev pub fragment_at : List ℕ → ℕ → ℕ
 fragment_at fragments k = slice_index_or fragments k 0
 
--- the id that was made at this place
+-- the id that was made at this position
 abbrev pub id_at : List Id → ℕ → Id
 id_at made i = slice_index_or made i Board
 

@@ -51,17 +51,17 @@ pub record OwnStands (heap : Heap) (words : List ℕ) (owner : ℕ → Owner) (s
 
 -- what is true of what a seat names: its registers, the way that it is on, and the place of the spine on it
 pub record NamesStand (heap : Heap) (words : List ℕ) (g : Graph) (made : List Id) (owner : ℕ → Owner) (fragments : ℕ → List ℕ) (spines : ℕ → Spot) (spine_owner : ℕ → ℕ → SpineOwner) (number : ℕ) (seat : Seat) : Type 0 where
-  pub registers : Registers g made owner fragments number seat.registers seat.place (target_of seat.command)
-  pub way : WayStands (node_at g made) made owner fragments seat seat.place
-  pub address : AddressStands heap words (node_at g made) owner fragments spines spine_owner seat seat.place
+  pub registers : Registers g made owner fragments number seat.registers seat.point (target_of seat.command)
+  pub way : WayStands (node_at g made) made owner fragments seat seat.point
+  pub address : AddressStands heap words (node_at g made) owner fragments spines spine_owner seat seat.point
 
 -- what the history tells of a seat: its entries, its counts, its call in flight and what that has gathered
 pub record ToldStands (heap : Heap) (g : Graph) (history : List Entry) (made : List Id) (owner : ℕ → Owner) (fragments : ℕ → List ℕ) (begun number : ℕ) (seat : Seat) : Type 0 where
   pub list : OwnList g history made owner fragments number seat
   pub counts : CountsAgree g history number seat
-  pub began : Began history number begun seat.place
+  pub began : Began history number begun seat.point
   pub gathers : GathersRight heap owner number (drop begun history) seat.cursor seat.tried seat.given
-  pub used : UsedStands heap history number seat seat.place
+  pub used : UsedStands heap history number seat seat.point
 
 -- what is true of a seat
 pub record SeatStands (heap : Heap) (words : List ℕ) (book : Book) (number : ℕ) (seat : Seat) : Type 0 where

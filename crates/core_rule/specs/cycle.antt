@@ -1,4 +1,4 @@
--- The phases of a cycle, and a seat's part in them.
+-- The phases of a cycle, and a seat's standing in them.
 pub mod Phases
 pub mod Flight
 pub mod Cycle

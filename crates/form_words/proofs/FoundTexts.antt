@@ -31,12 +31,12 @@ text_has_no_patience rows word is none None has = let bad = sym is ∙ has.0 in 
 text_has_no_patience rows word is none (Some n) has = let same : Some word ≡ Some (decimal n) = sym is ∙ has.0 in none n (cc) has.1.0 has.1.1
 
 -- the number of a text that was found
-pub found_number_in_range : (rows : List Row) (place word : Text) (found : Option ℕ) (least most : ℕ) → first_of place rows ≡ Some word → IfSome found (λ n. (word ≡ decimal n) × (least ≤ n) × (n ≤ most))
-    → IfSome found (λ n. (first_of place rows ≡ Some (decimal n)) × (least ≤ n) × (n ≤ most))
-found_number_in_range rows place word None least most is some = tt
-found_number_in_range rows place word (Some n) least most is some = (is ∙ ap Some some.0, some.1, some.2)
+pub found_number_in_range : (rows : List Row) (position word : Text) (found : Option ℕ) (least most : ℕ) → first_of position rows ≡ Some word → IfSome found (λ n. (word ≡ decimal n) × (least ≤ n) × (n ≤ most))
+    → IfSome found (λ n. (first_of position rows ≡ Some (decimal n)) × (least ≤ n) × (n ≤ most))
+found_number_in_range rows position word None least most is some = tt
+found_number_in_range rows position word (Some n) least most is some = (is ∙ ap Some some.0, some.1, some.2)
 
-pub no_number_in_range : (rows : List Row) (place word : Text) (found : Option ℕ) (least most : ℕ) → first_of place rows ≡ Some word → IfNone found ((n : ℕ) → word ≡ decimal n → least ≤ n → n ≤ most → ⊥)
-    → IfNone found ((n : ℕ) → first_of place rows ≡ Some (decimal n) → least ≤ n → n ≤ most → ⊥)
-no_number_in_range rows place word None least most is none = λ n has. let same : Some word ≡ Some (decimal n) = sym is ∙ has in none n (cc)
-no_number_in_range rows place word (Some n) least most is none = tt
+pub no_number_in_range : (rows : List Row) (position word : Text) (found : Option ℕ) (least most : ℕ) → first_of position rows ≡ Some word → IfNone found ((n : ℕ) → word ≡ decimal n → least ≤ n → n ≤ most → ⊥)
+    → IfNone found ((n : ℕ) → first_of position rows ≡ Some (decimal n) → least ≤ n → n ≤ most → ⊥)
+no_number_in_range rows position word None least most is none = λ n has. let same : Some word ≡ Some (decimal n) = sym is ∙ has in none n (cc)
+no_number_in_range rows position word (Some n) least most is none = tt

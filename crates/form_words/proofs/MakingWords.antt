@@ -12,38 +12,38 @@ use Rattle.form_words.proofs.FirstWord.{first_word_is_taken}
 use Rattle.form_words.proofs.OptionWalk.{IsLoose}
 use Rattle.form_words.proofs.OptionForms.{fault_is_of_its_parts, matches_are_walked_rows}
 
--- a word at a place of a built command
-abbrev place : ℕ → Text → Rule
-place i name = with_index i (filled (number_rule name))
+-- a word at a position of a built command
+abbrev positional : ℕ → Text → Rule
+positional i name = with_index i (filled (number_rule name))
 
 abbrev make_rules : List Rule
-make_rules = place 1 (codes "start") ∷ place 2 (codes "seats") ∷ place 3 (codes "lines") ∷ []
+make_rules = positional 1 (codes "start") ∷ positional 2 (codes "seats") ∷ positional 3 (codes "lines") ∷ []
 
 abbrev make_shape : Rattle.clap.specs.Simple.Shape
 make_shape = shape_with (codes "make") make_rules
 
--- the row of a word at a place
-abbrev pub place_row : Text → Text → Row
-place_row name word = row_of_words (name, Some word)
+-- the row of a word at a position
+abbrev pub position_row : Text → Text → Row
+position_row name word = row_of_words (name, Some word)
 
--- the walk at a place
-abbrev at_place : ℕ → List Row → Option (Text × List Text) → Walk
-at_place i rows pending = record (walk_from (held rows pending)) { position = i }
+-- the walk at a position
+abbrev at_position : ℕ → List Row → Option (Text × List Text) → Walk
+at_position i rows pending = record (walk_from (held rows pending)) { position = i }
 
--- the walk before each place, and behind the last one
+-- the walk before each position, and behind the last one
 abbrev first : Walk
-first = at_place 1 [] None
+first = at_position 1 [] None
 
 abbrev second : Text → Walk
-second a = at_place 2 [] (Some (codes "start", a ∷ []))
+second a = at_position 2 [] (Some (codes "start", a ∷ []))
 
 abbrev third : Text → Text → Walk
-third a b = at_place 3 (place_row (codes "start") a ∷ []) (Some (codes "seats", b ∷ []))
+third a b = at_position 3 (position_row (codes "start") a ∷ []) (Some (codes "seats", b ∷ []))
 
 abbrev last : Text → Text → Text → Walk
-last a b c = at_place 4 (place_row (codes "start") a ∷ place_row (codes "seats") b ∷ []) (Some (codes "lines", c ∷ []))
+last a b c = at_position 4 (position_row (codes "start") a ∷ position_row (codes "seats") b ∷ []) (Some (codes "lines", c ∷ []))
 
--- the word is at its place, and the walk goes on
+-- the word is at its position, and the walk goes on
 abbrev Goes : Walk → Text → Walk → Type 0
 Goes w word next = (turn_fault make_shape [] w word ≡ []) × (walked make_rules [] w word ≡ next)
 
@@ -58,29 +58,29 @@ goes_second : (a word : Text) → IsValue word 2 [] (Some (codes "start", a ∷ 
 unfolding walked
 goes_second a word is = rw (is.0, is.1) (refl, refl)
 
-goes_third : (a b word : Text) → IsValue word 3 (place_row (codes "start") a ∷ []) (Some (codes "seats", b ∷ [])) → Goes (third a b) word (last a b word)
+goes_third : (a b word : Text) → IsValue word 3 (position_row (codes "start") a ∷ []) (Some (codes "seats", b ∷ [])) → Goes (third a b) word (last a b word)
 unfolding walked
 goes_third a b word is = rw (is.0, is.1) (refl, refl)
 
-goes_no_more : (a b c word : Text) → IsValue word 4 (place_row (codes "start") a ∷ place_row (codes "seats") b ∷ []) (Some (codes "lines", c ∷ [])) → turn_fault make_shape [] (last a b c) word ≡ refusal
+goes_no_more : (a b c word : Text) → IsValue word 4 (position_row (codes "start") a ∷ position_row (codes "seats") b ∷ []) (Some (codes "lines", c ∷ [])) → turn_fault make_shape [] (last a b c) word ≡ refusal
 goes_no_more a b c word is = rw (is.0, is.1) refl
 
 -- a word is a value, or a fault
-value_or_fault : (word : Text) (i : ℕ) (rows : List Row) (pending : Option (Text × List Text)) → is_joined word ≡ false → turn_fault make_shape [] (at_place i rows pending) word ≡ [] → IsValue word i rows pending
+value_or_fault : (word : Text) (i : ℕ) (rows : List Row) (pending : Option (Text × List Text)) → is_joined word ≡ false → turn_fault make_shape [] (at_position i rows pending) word ≡ [] → IsValue word i rows pending
 value_or_fault word i rows pending apart faultless = by (each_word_has_case (codes "make") make_rules (λ x. refl) word apart) where
   by : WordCase (codes "make") make_rules (λ x. refl) word → IsValue word i rows pending
   by (named name spelled long other) =
       let none : arg_by_long make_rules name ≡ None = refl in
-      let told : turn_fault make_shape [] (at_place i rows pending) word ≡ refusal = rw (other, long) refl in
+      let told : turn_fault make_shape [] (at_position i rows pending) word ≡ refusal = rw (other, long) refl in
       let bad : refusal ≡ [] = sym told ∙ faultless in cc
   by (refused is) =
-      let told : turn_fault make_shape [] (at_place i rows pending) word ≡ refusal = rw (is idle rows pending) refl in
+      let told : turn_fault make_shape [] (at_position i rows pending) word ≡ refusal = rw (is idle rows pending) refl in
       let bad : refusal ≡ [] = sym told ∙ faultless in cc
   by (loose is) = is idle i rows pending
 
 -- the rows of three words
 abbrev pub three_rows : Text → Text → Text → List Row
-three_rows a b c = place_row (codes "start") a ∷ place_row (codes "seats") b ∷ place_row (codes "lines") c ∷ []
+three_rows a b c = position_row (codes "start") a ∷ position_row (codes "seats") b ∷ position_row (codes "lines") c ∷ []
 
 -- the words are three, with their rows
 pub record AreThree (words : List Text) (rows : List Row) : Type 0 where

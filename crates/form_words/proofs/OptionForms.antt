@@ -70,7 +70,7 @@ pub record IsOptional (app : App) (form flag : Text) (c : List Rule) : Type 0 wh
   pub nameless : app.top.no_binary_name ≡ true
   pub cases : (name : Text) → NameCase c name
   pub no_short : (x : ℕ) → arg_by_short c x ≡ None
-  pub no_place : (i : ℕ) → arg_by_index c i ≡ None
+  pub no_position : (i : ℕ) → arg_by_index c i ≡ None
   pub defaults : (rows : List Row) → defaults_fault rows c ≡ []
   pub checks : (rows : List Row) → check_fault (shape_with form c) rows false ≡ []
   pub ends : (h : Held) → finished c h ≡ with_default (settled c h).rows (plain_built flag)
@@ -93,14 +93,14 @@ module _ (app : App) (form flag : Text) (c : List Rule) (is : IsOptional app for
       let end = (walk c [] nothing_held words).held in
       let first = or_else_empty_both_empty (walk_fault (shape_with form c) [] (walk_from nothing_held) words) _ (sym (fault_is_of_its_parts app form c is.built_is is.nameless words) ∙ none) in
       let second = or_else_empty_both_empty (settle_fault c false end) _ first.1 in
-      let read = taken_words_give_options form c is.cases is.no_short is.no_place words [] None (record { apart = apart; faultless = first.0; settles_last = second.0 }) in
+      let read = taken_words_give_options form c is.cases is.no_short is.no_position words [] None (record { apart = apart; faultless = first.0; settles_last = second.0 }) in
       record { after = (settled c end).rows; reads = read.1; is = matches_are_walked_rows app form c is.built_is is.nameless words ∙ is.ends end }
 
   pub given_words_are_taken : (given : List Given) (after : List Row) → AllSpelled given → Grows c [] given after → IsTaken app flag (flat_map given_words given) after
   given_words_are_taken given after spelled grows =
       let words = flat_map given_words given in
       let end = (walk c [] nothing_held words).held in
-      let gone = given_options_are_taken form c is.cases is.no_short is.no_place given [] None after refl spelled grows in
+      let gone = given_options_are_taken form c is.cases is.no_short is.no_position given [] None after refl spelled grows in
       record {
         apart = gone.0.apart;
         faultless = fault_is_of_its_parts app form c is.built_is is.nameless words ∙ ap₂ or_else gone.0.faultless (ap₂ or_else gone.0.settles_last (ap₂ or_else (is.defaults (settled c end).rows) (is.checks (finished c end))));
@@ -114,7 +114,7 @@ play_app_is_optional = record {
   nameless = refl;
   cases = play_cases;
   no_short = λ x. refl;
-  no_place = λ i. refl;
+  no_position = λ i. refl;
   defaults = λ rows. ap₂ or_else (valued_default (codes "pace") rows).0 (ap₂ or_else (plain_default (codes "brief") (with_default rows (valued_built (codes "pace")))) refl);
   checks = λ rows. refl;
   ends = λ h. ap (λ rows. with_default rows (plain_built (codes "brief"))) (valued_default (codes "pace") (settled play_rules h).rows).1;
@@ -127,7 +127,7 @@ run_app_is_optional = record {
   nameless = refl;
   cases = run_cases;
   no_short = λ x. refl;
-  no_place = λ i. refl;
+  no_position = λ i. refl;
   defaults = λ rows.
       let first = with_default rows (valued_built (codes "pace")) in
       let second = with_default first (plain_built (codes "locked")) in

@@ -1,4 +1,4 @@
--- What a word is to a command of options alone: one of its names, a value or a word at a place, or refused.
+-- What a word is to a command of options alone: one of its names, a value or a word at a position, or refused.
 use Rattle.std.proofs.Common.{◌≡◌, ◌==◌, ◌||◌, ◌+◌, suc, ℕ, Bool, true, false, not, List, [], ◌∷◌, ◌++◌, length, Option, Some, None, refl, sym, ap, ap₂, ◌∙◌, subst, arith, append-nil, codes, cond, true≢false}
 use Rattle.std.specs.Prelude.{slice_get}
 use Rattle.std.specs.List.{before_first, after_first, prefix_len}
@@ -114,7 +114,7 @@ or_else_nil : (kinds : Kinds) → or_else kinds [] ≡ kinds
 or_else_nil [] = refl
 or_else_nil (k ∷ ks) = refl
 
-module _ (form : Text) (c : List Rule) (no_place : (i : ℕ) → arg_by_index c i ≡ None) where
+module _ (form : Text) (c : List Rule) (no_position : (i : ℕ) → arg_by_index c i ≡ None) where
   -- at an option by itself
   pub step_at_plain_option : (word name : Text) (rows : List Row) (pending : Option (Text × List Text)) → long_of word ≡ Some (name, None) → bytes_eq word (45 ∷ 45 ∷ []) ≡ false
       → arg_by_long c name ≡ Some (plain_built name)
@@ -144,7 +144,7 @@ module _ (form : Text) (c : List Rule) (no_place : (i : ℕ) → arg_by_index c 
   name_is_no_value word name due rows long other id (plain is) faultless = let told = rw (other, long, is, id) at faultless in cc
   name_is_no_value word name due rows long other id (valued is same) faultless = let told = rw (other, long, is, id) at faultless in cc
 
-  -- a word that is no name is refused, or has no place
+  -- a word that is no name is refused, or has no position
   pub nameless_word_is_refused : (word : Text) (rows : List Row) (pending : Option (Text × List Text)) (waiting : Waiting)
       → word_fault (shape_with form c) [] false waiting word (held rows pending) ≡ refusal
       → turn_fault (shape_with form c) [] (record (walk_from (held rows pending)) { waiting = waiting }) word ≡ refusal
@@ -154,7 +154,7 @@ module _ (form : Text) (c : List Rule) (no_place : (i : ℕ) → arg_by_index c 
       → let h : Held = held rows pending in
       (word_fault (shape_with form c) [] false idle word h ≡ []) × (word_met c [] false idle 1 word h ≡ plain_word c idle word h)
       → turn_fault (shape_with form c) [] (walk_from h) word ≡ refusal
-  loose_word_is_refused word rows pending is = rw (is.0, is.1, no_place 1) refl
+  loose_word_is_refused word rows pending is = rw (is.0, is.1, no_position 1) refl
 
   -- a word that is no name is the value of the option that waits for one
   pub due_value_is_taken : (word due : Text) (rows : List Row) → arg_by_id c due ≡ Some (valued_built due)

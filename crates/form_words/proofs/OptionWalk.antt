@@ -79,7 +79,7 @@ reads_valued c name words rows after is read = record {
   grows = (is, read.new, read.more.grows);
 }
 
-module _ (form : Text) (c : List Rule) (cases : (name : Text) → NameCase c name) (no_short : (x : ℕ) → arg_by_short c x ≡ None) (no_place : (i : ℕ) → arg_by_index c i ≡ None) where
+module _ (form : Text) (c : List Rule) (cases : (name : Text) → NameCase c name) (no_short : (x : ℕ) → arg_by_short c x ≡ None) (no_position : (i : ℕ) → arg_by_index c i ≡ None) where
   abbrev pub end_of : Walk → List Text → Held
   end_of w words = (fold (walked c []) w words).held
 
@@ -130,24 +130,24 @@ module _ (form : Text) (c : List Rule) (cases : (name : Text) → NameCase c nam
     turn = turns (walk_from (held rows pending)) word words ends
 
     by_name : (name : Text) → word ≡ 45 ∷ 45 ∷ name → long_of word ≡ Some (name, None) → bytes_eq word (45 ∷ 45 ∷ []) ≡ false → NameCase c name → IdleTurn word words rows pending
-    by_name name spelled long other (unknown none) = let told = unknown_name_is_refused form c no_place word name rows pending long other none in let bad : refusal ≡ [] = sym told ∙ turn.faultless in cc
+    by_name name spelled long other (unknown none) = let told = unknown_name_is_refused form c no_position word name rows pending long other none in let bad : refusal ≡ [] = sym told ∙ turn.faultless in cc
     by_name name spelled long other (plain is) =
-        let at = step_at_plain_option form c no_place word name rows pending long other is in
+        let at = step_at_plain_option form c no_position word name rows pending long other is in
         let parts = or_else_empty_both_empty (settle_fault c false (held rows pending)) (repeat_fault false name (settled c (held rows pending)).rows) (sym at.0 ∙ turn.faultless) in
         let new = has_no_such_row name (settled c (held rows pending)).rows parts.1 in
         let next = more (used (plain_built name) [] (settled c (held rows pending)).rows) None (subst (λ w. Ends w words) at.1 turn.more) in
         let read = subst (λ w. Reads c words (used (plain_built name) [] (settled c (held rows pending)).rows) (settled c (end_of w words)).rows) (sym at.1) next.1 in
         (parts.0, subst (λ t. Reads c (t ∷ words) (settled c (held rows pending)).rows (rows_after_turn (walk_from (held rows pending)) word words)) (sym spelled) (reads_plain c name words (settled c (held rows pending)).rows (rows_after_turn (walk_from (held rows pending)) word words) is new read))
     by_name name spelled long other (valued is same) =
-        let at = step_at_valued_option form c no_place word name rows pending long other is in
+        let at = step_at_valued_option form c no_position word name rows pending long other is in
         let next = value name (settled c (held rows pending)).rows same (subst (λ w. Ends w words) at.1 turn.more) in
         let read = subst (λ w. ReadsValue c name words (settled c (held rows pending)).rows (settled c (end_of w words)).rows) (sym at.1) next in
         (sym at.0 ∙ turn.faultless, subst (λ t. Reads c (t ∷ words) (settled c (held rows pending)).rows (rows_after_turn (walk_from (held rows pending)) word words)) (sym spelled) (reads_valued c name words (settled c (held rows pending)).rows (rows_after_turn (walk_from (held rows pending)) word words) (is, same) read))
 
     by : WordCase form c no_short word → IdleTurn word words rows pending
     by (named name spelled long other) = by_name name spelled long other (cases name)
-    by (refused is) = let bad : refusal ≡ [] = sym (nameless_word_is_refused form c no_place word rows pending idle (is idle rows pending)) ∙ turn.faultless in cc
-    by (loose is) = let bad : refusal ≡ [] = sym (loose_word_is_refused form c no_place word rows pending (is idle 1 rows pending)) ∙ turn.faultless in cc
+    by (refused is) = let bad : refusal ≡ [] = sym (nameless_word_is_refused form c no_position word rows pending idle (is idle rows pending)) ∙ turn.faultless in cc
+    by (loose is) = let bad : refusal ≡ [] = sym (loose_word_is_refused form c no_position word rows pending (is idle 1 rows pending)) ∙ turn.faultless in cc
 
   waiting_more : (word : Text) (words : List Text) → IdleReads words → WaitingReads (word ∷ words)
   waiting_more word words more due rows id ends = by (each_word_has_case form c no_short word turn.apart) where
@@ -155,12 +155,12 @@ module _ (form : Text) (c : List Rule) (cases : (name : Text) → NameCase c nam
     turn = turns (waits due rows) word words ends
 
     by : WordCase form c no_short word → ReadsValue c due (word ∷ words) rows (settled c (end_of (walked c [] (waits due rows) word) words)).rows
-    by (named name spelled long other) = absurd (name_is_no_value form c no_place word name due rows long other id (cases name) turn.faultless)
-    by (refused is) = let bad : refusal ≡ [] = sym (nameless_word_is_refused form c no_place word rows (Some (due, [])) (option due) (is (option due) rows (Some (due, [])))) ∙ turn.faultless in cc
+    by (named name spelled long other) = absurd (name_is_no_value form c no_position word name due rows long other id (cases name) turn.faultless)
+    by (refused is) = let bad : refusal ≡ [] = sym (nameless_word_is_refused form c no_position word rows (Some (due, [])) (option due) (is (option due) rows (Some (due, [])))) ∙ turn.faultless in cc
     by (loose is) =
-        let at = due_value_is_taken form c no_place word due rows id (is (option due) 1 rows (Some (due, []))) in
+        let at = due_value_is_taken form c no_position word due rows id (is (option due) 1 rows (Some (due, []))) in
         let next = more rows (Some (due, word ∷ [])) (subst (λ w. Ends w words) at.1 turn.more) in
-        let settle = pending_value_settles form c no_place due word rows id in
+        let settle = pending_value_settles form c no_position due word rows id in
         let new = has_no_such_row due rows (sym settle.0 ∙ next.0) in
         let same = settle.1 ∙ valued_use_adds_row due word rows new in
         let read = subst (λ w. Reads c words (settled c (held rows (Some (due, word ∷ [])))).rows (settled c (end_of w words)).rows) (sym at.1) next.1 in
@@ -170,7 +170,7 @@ module _ (form : Text) (c : List Rule) (cases : (name : Text) → NameCase c nam
   idle_none rows pending ends = (ends.settles_last, record { given = []; spelled = refl; grows = refl })
 
   waiting_none : WaitingReads []
-  waiting_none due rows id ends = let bad = sym (missing_value_is_invalid form c no_place due rows id) ∙ ends.settles_last in cc
+  waiting_none due rows id ends = let bad = sym (missing_value_is_invalid form c no_position due rows id) ∙ ends.settles_last in cc
 
   reads_both : (words : List Text) → IdleReads words × WaitingReads words
   reads_both [] = (idle_none, waiting_none)
@@ -188,7 +188,7 @@ module _ (form : Text) (c : List Rule) (cases : (name : Text) → NameCase c nam
   given_options_are_taken [] rows pending after settle spelled grows = (record { apart = refl; faultless = refl; settles_last = settle }, sym grows)
   given_options_are_taken ((name, None) ∷ more) rows pending after settle spelled grows =
       let now = (settled c (held rows pending)).rows in
-      let at = step_at_plain_option form c no_place (45 ∷ 45 ∷ name) name rows pending spelled.0.named spelled.0.no_end grows.0 in
+      let at = step_at_plain_option form c no_position (45 ∷ 45 ∷ name) name rows pending spelled.0.named spelled.0.no_end grows.0 in
       let next = given_options_are_taken more (used (plain_built name) [] now) None after refl spelled.1 (subst (λ rs. Grows c rs more after) (sym (plain_use_adds_row name now grows.1)) grows.2) in
       let ends = subst (λ w. Ends w (flat_map given_words more)) (sym at.1) next.0 in
       let faultless = at.0 ∙ ap₂ or_else settle (no_repeat_fault name now grows.1) in (
@@ -198,10 +198,10 @@ module _ (form : Text) (c : List Rule) (cases : (name : Text) → NameCase c nam
   given_options_are_taken ((name, Some value) ∷ more) rows pending after settle spelled grows =
       let now = (settled c (held rows pending)).rows in
       let words = flat_map given_words more in
-      let at = step_at_valued_option form c no_place (45 ∷ 45 ∷ name) name rows pending spelled.0.0.named spelled.0.0.no_end grows.0.0 in
+      let at = step_at_valued_option form c no_position (45 ∷ 45 ∷ name) name rows pending spelled.0.0.named spelled.0.0.no_end grows.0.0 in
       let loose = dashless_word_is_loose form c no_short value spelled.0.1.no_end spelled.0.1.no_name spelled.0.1.no_letters (option name) 1 now (Some (name, [])) in
-      let taken = due_value_is_taken form c no_place value name now grows.0.1 loose in
-      let settle' = pending_value_settles form c no_place name value now grows.0.1 in
+      let taken = due_value_is_taken form c no_position value name now grows.0.1 loose in
+      let settle' = pending_value_settles form c no_position name value now grows.0.1 in
       let same = settle'.1 ∙ valued_use_adds_row name value now grows.1 in
       let next = given_options_are_taken more now (Some (name, value ∷ [])) after (settle'.0 ∙ no_repeat_fault name now grows.1) spelled.1 (subst (λ rs. Grows c rs more after) (sym same) grows.2) in
       let ends = subst (λ w. Ends w words) (sym taken.1) next.0 in

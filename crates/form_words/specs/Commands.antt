@@ -15,7 +15,7 @@ valued_rule name = record (new_rule name) { long = Some name }
 abbrev pub plain_rule : Text → Rule
 plain_rule name = record (new_rule name) { long = Some name; action = Some SetTrue }
 
--- a word at its place
+-- a word at its position
 abbrev pub number_rule : Text → Rule
 number_rule name = record (new_rule name) { required = true }
 

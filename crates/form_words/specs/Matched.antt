@@ -10,7 +10,7 @@ use Rattle.form_words.specs.declared.work.Work.TheVariants.{Make}
 use Rattle.form_words.specs.Settings.{most_patience, pace_word}
 use Rattle.form_words.specs.Works.{MayBeMade}
 
--- the command takes the words, each of which is an option, a value or a word at a place
+-- the command takes the words, each of which is an option, a value or a word at a position
 pub record Takes (app : App) (words : List (List ℕ)) : Type 0 where
   pub apart : are_apart words ≡ true
   pub faultless : fault_of app words ≡ []

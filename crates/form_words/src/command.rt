@@ -31,7 +31,7 @@ fn plain_option<'a>(alloc: Global, name: &'a str) -> Arg<'a>
     Arg::new(alloc, name).long(name).action(ArgAction::SetTrue)
 }
 
-/// A word at its place that has to be there.
+/// A word at its position that has to be there.
 fn number<'a>(alloc: Global, name: &'a str) -> Arg<'a>
     ensures rule { rule_of result ≡ number_rule name.entry.now }
     ensures own { result.global ≡ false }

@@ -104,16 +104,16 @@ fn check_of<'a>(alloc: Global, words: &'a [&'a str]) -> Result<Option<Work>, Mem
     Ok(Some(Work::Check))
 }
 
-/// The number at the place, in the range with both ends.
-fn number_at(matches: &ArgMatches, place: &str, least: u32, most: u32) -> Option<u32>
-    ensures some { IfSome result (λ n. (first_of place.now (rows_of (found_of matches.now)) ≡ Some (decimal n)) × (least ≤ n) × (n ≤ most)) }
-    ensures none { IfNone result ((n : ℕ) → first_of place.now (rows_of (found_of matches.now)) ≡ Some (decimal n) → least ≤ n → n ≤ most → ⊥) }
+/// The number at the position, in the range with both ends.
+fn number_at(matches: &ArgMatches, position: &str, least: u32, most: u32) -> Option<u32>
+    ensures some { IfSome result (λ n. (first_of position.now (rows_of (found_of matches.now)) ≡ Some (decimal n)) × (least ≤ n) × (n ≤ most)) }
+    ensures none { IfNone result ((n : ℕ) → first_of position.now (rows_of (found_of matches.now)) ≡ Some (decimal n) → least ≤ n → n ≤ most → ⊥) }
 {
-    let word = matches.get_str(place)?;
+    let word = matches.get_str(position)?;
     number_in(word, least, most)
 }
 
-/// The making by the words at the three places, where each is a number in its range.
+/// The making by the words at the three positions, where each is a number in its range.
 fn making_in(matches: &ArgMatches) -> Option<Work>
     ensures some { IfSome result (λ work. (form_word work ≡ codes "make") × FindsMaking (rows_of (found_of matches.now)) work) }
     ensures none { IfNone result ((start seats lines : ℕ) → ¬ FindsMaking (rows_of (found_of matches.now)) (works.Make start seats lines)) }

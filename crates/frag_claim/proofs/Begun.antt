@@ -1,15 +1,15 @@
--- For the crates above: right after its begin, or its budget step, a call stands where its part begins.
+-- For the crates above: right after its begin, or its budget step, a call stands where gathering or giving back begins.
 use Rattle.std.proofs.Common.{◌≡◌, ℕ, ◌+◌, ◌≤◌, suc, List, refl, sym, ap, subst, ◌∙◌, inl, inr, append-nil, arith}
 use Rattle.heap_model.specs.Needs.{need_of}
 use Rattle.heap_model.specs.declared.command.Command.TheVariants.{New, Leave}
 use Rattle.heap_model.specs.declared.entry.Entry.{Entry}
 use Rattle.heap_model.specs.declared.heap.Heap.{Heap}
 use Rattle.core_machine.specs.Moves.{move_at, seat_after_due}
-use Rattle.core_machine.specs.declared.place.Making.TheVariants.{Granting}
-use Rattle.core_machine.specs.declared.place.Place.{Place}
-use Rattle.core_machine.specs.declared.place.Place.TheVariants as places
+use Rattle.core_machine.specs.declared.point.Making.TheVariants.{Granting}
+use Rattle.core_machine.specs.declared.point.Point.{Point}
+use Rattle.core_machine.specs.declared.point.Point.TheVariants as points
 use Rattle.core_machine.specs.machine.Machine.{MayBegin, after_begin}
-use Rattle.core_machine.specs.seat.Fits.{FitsPlace}
+use Rattle.core_machine.specs.seat.Fits.{FitsPoint}
 use Rattle.core_machine.specs.seat.Making.{gather_next, after_budget}
 use Rattle.core_machine.specs.seat.Seat.{spine_need, with_entries}
 use Rattle.heap_table.specs.Made.{IsSound}
@@ -22,7 +22,7 @@ pub new_begins_gathering : (old new : SeatHeld) (d fields : ℕ) → IsSound old
     → BeginsGathering new old.seat.reserve old.seat.cursor (need_of (New d fields))
 new_begins_gathering old new d fields sound may is = subst (λ (h : SeatHeld). BeginsGathering h old.seat.reserve old.seat.cursor (need_of (New d fields))) (sym is) (record {
   before = record old.seat { command = New d fields };
-  rests = subst (FitsPlace old.heap old.seat) may.idle sound.fits.at_place;
+  rests = subst (FitsPoint old.heap old.seat) may.idle sound.fits.at_point;
   goes_on = refl;
   makes = tt;
   need_is = refl;

@@ -8,15 +8,15 @@ use Rattle.core_machine.specs.calls.Claims.{AreOfTried, ClaimsGroup, IsGranted}
 use Rattle.core_machine.specs.calls.Kept.{Kept, kept_of}
 use Rattle.core_machine.specs.calls.Making.{HasObject}
 use Rattle.core_machine.specs.calls.OwnStage.{StageAt, OwnStage}
-use Rattle.core_machine.specs.declared.place.Making.TheVariants.{Refusing, Placing, Storing}
-use Rattle.core_machine.specs.declared.place.Place.{Place}
-use Rattle.core_machine.specs.declared.place.Place.TheVariants as places
+use Rattle.core_machine.specs.declared.point.Making.TheVariants.{Refusing, Placing, Storing}
+use Rattle.core_machine.specs.declared.point.Point.{Point}
+use Rattle.core_machine.specs.declared.point.Point.TheVariants as points
 use Rattle.core_machine.specs.declared.step.MakingStep.TheVariants.{Claim}
 use Rattle.core_machine.specs.declared.step.Step.{Step}
 use Rattle.core_machine.specs.declared.step.Step.TheVariants.{Making}
 use Rattle.core_machine.specs.seat.Commands.{IsArrayCall}
-use Rattle.core_machine.specs.seat.Fits.{FitsPlace}
-use Rattle.core_machine.specs.seat.Making.{settled_place, gather_next}
+use Rattle.core_machine.specs.seat.Fits.{FitsPoint}
+use Rattle.core_machine.specs.seat.Making.{settled_point, gather_next}
 use Rattle.core_machine.specs.seat.Seat.{Seat, with_entries}
 use Rattle.core_machine.proofs.call_lemmas.Awaits.{own_list_same_going_on}
 use Rattle.core_machine.proofs.call_lemmas.GoingOn.{holds_of_every_group}
@@ -59,7 +59,7 @@ module _ (made : List Made) (old new : SeatHeld) (reserve : List ℕ) (cursor ne
       subst (λ (s : Seat). OwnStage tells old.heap old.number before.command before s []) (sym begins.goes_on) (record {
         same = going_on_keeps_command old.heap before;
         mine = own_list_same_going_on old.heap before ∙ sym (append-nil before.mine);
-        stage = subst (λ (s : Seat). StageAt tells old.heap old.number (kept_of before) s [] next.place) (no_entries next) on;
+        stage = subst (λ (s : Seat). StageAt tells old.heap old.number (kept_of before) s [] next.point) (no_entries next) on;
       })
 
   -- and so where it has ended
@@ -68,10 +68,10 @@ module _ (made : List Made) (old new : SeatHeld) (reserve : List ℕ) (cursor ne
       (λ step word here. inl here) begins_so
 
   -- the object has its fragments
-  object_at : (place : Place) (told : List Entry) → has_its_fragments place ≡ true → StageAt tells old.heap old.number (kept_of before) new.seat told place
+  object_at : (point : Point) (told : List Entry) → has_its_fragments point ≡ true → StageAt tells old.heap old.number (kept_of before) new.seat told point
       → HasObject tells old.heap old.number new.seat.command (kept_of before) (kept_of new.seat) new.seat.body told
-  object_at (places.Making Placing) told e stage = stage
-  object_at (places.Making Storing) told e stage = stage.0
+  object_at (points.Making Placing) told e stage = stage
+  object_at (points.Making Storing) told e stage = stage.0
   object_at _ told e stage = absurd (differ e)
     where
       differ : false ≡ true → ⊥
@@ -83,9 +83,9 @@ module _ (made : List Made) (old new : SeatHeld) (reserve : List ℕ) (cursor ne
   need_is : need_of new.seat.command ≡ need_
   need_is = ap need_of ends_so.1.same ∙ begins.need_is
 
-  pub has_gathered_enough : has_its_fragments new.seat.place ≡ true → HasGathered made old.heap.groups cursor need_ reserve new.seat.reserve new.seat.body
+  pub has_gathered_enough : has_its_fragments new.seat.point ≡ true → HasGathered made old.heap.groups cursor need_ reserve new.seat.reserve new.seat.body
   has_gathered_enough e =
-      let object = object_at new.seat.place ends_so.0 e ends_so.1.stage in
+      let object = object_at new.seat.point ends_so.0 e ends_so.1.stage in
       record {
         claimed = object.claimed;
         tried = object.tried;
@@ -99,26 +99,26 @@ module _ (made : List Made) (old new : SeatHeld) (reserve : List ℕ) (cursor ne
         rest_is = ap (λ (k : Kept). k.reserve) object.kept_is ∙ ap (λ (n : ℕ). drop n (before.reserve ++ object.claimed)) need_is ∙ ap (λ (l : List ℕ). drop need_ (l ++ object.claimed)) begins.reserve_is;
       }
 
-  pub gathered_is_what_is_needed : has_its_fragments new.seat.place ≡ true → length new.seat.body ≡ need_
+  pub gathered_is_what_is_needed : has_its_fragments new.seat.point ≡ true → length new.seat.body ≡ need_
   gathered_is_what_is_needed e =
-      let object = object_at new.seat.place ends_so.0 e ends_so.1.stage in
+      let object = object_at new.seat.point ends_so.0 e ends_so.1.stage in
       let long = length-append before.reserve object.claimed in
       ap (length {A = ℕ}) object.body_is ∙ omega (arith, length-take (need_of new.seat.command) (before.reserve ++ object.claimed), long, object.enough, need_is)
 
-  pub gathered_has_its_fragments : EndsClaiming new → has_its_fragments new.seat.place ≡ true → (hand : List ℕ) → hand ≡ new.seat.body → HasItsFragments old new hand
+  pub gathered_has_its_fragments : EndsClaiming new → has_its_fragments new.seat.point ≡ true → (hand : List ℕ) → hand ≡ new.seat.body → HasItsFragments old new hand
   gathered_has_its_fragments ends e hand is = record {
     same = same_command;
-    place_is = ends.settled e ∙ ap (λ (command : Command). places.Making (settled_place command)) same_command;
+    point_is = ends.settled e ∙ ap (λ (command : Command). points.Making (settled_point command)) same_command;
     body_is = sym is;
     none_stored = ends.none_stored;
   }
 
   -- at the refusal all was claimed, and is given back
-  pub refused_heap_is_exhausted : (found : ℕ) → IsSound new → new.seat.place ≡ places.Making Refusing → found ≡ length reserve + new.seat.given → IsExhausted made old.heap.groups reserve found × (found < need_)
+  pub refused_heap_is_exhausted : (found : ℕ) → IsSound new → new.seat.point ≡ points.Making Refusing → found ≡ length reserve + new.seat.given → IsExhausted made old.heap.groups reserve found × (found < need_)
   refused_heap_is_exhausted found sound_then is counted =
       let stage = subst (StageAt tells old.heap old.number (kept_of before) new.seat ends_so.0) is ends_so.1.stage in
       let up = stage.1 in
-      let fits : FitsPlace new.heap new.seat (places.Making Refusing) = subst (FitsPlace new.heap new.seat) is sound_then.fits.at_place in
+      let fits : FitsPoint new.heap new.seat (points.Making Refusing) = subst (FitsPoint new.heap new.seat) is sound_then.fits.at_point in
       let none = ap (length {A = ℕ}) fits.1 in
       let all = up.all in
       let kept = ap (length {A = ℕ}) begins.reserve_is in
@@ -137,19 +137,19 @@ module _ (made : List Made) (old new : SeatHeld) (reserve : List ℕ) (cursor ne
       )
 
   -- and the reserve is as it was
-  pub refused_keeps_reserve : new.seat.place ≡ places.Making Refusing → (reserve ≡ new.seat.reserve) × (cursor ≡ new.seat.cursor)
+  pub refused_keeps_reserve : new.seat.point ≡ points.Making Refusing → (reserve ≡ new.seat.reserve) × (cursor ≡ new.seat.cursor)
   refused_keeps_reserve is =
       let stage = subst (StageAt tells old.heap old.number (kept_of before) new.seat ends_so.0) is ends_so.1.stage in
       (sym (ap (λ (k : Kept). k.reserve) stage.0 ∙ begins.reserve_is), sym (ap (λ (k : Kept). k.cursor) stage.0 ∙ begins.cursor_is))
 
 -- an object has at most 1,025 fragments
-few_at : (held : SeatHeld) (place : Place) → has_its_fragments place ≡ true → FitsPlace held.heap held.seat place → length held.seat.body ≤ 1025
-few_at held (places.Making Placing) e fits = let body = fits.0.0 in omega (arith, body.whole, object_need_within_limits held.seat.command body.makes.an_object body.makes.in_range)
-few_at held (places.Making Storing) e fits = let body = fits.0 in omega (arith, body.whole, object_need_within_limits held.seat.command body.makes.an_object body.makes.in_range)
+few_at : (held : SeatHeld) (point : Point) → has_its_fragments point ≡ true → FitsPoint held.heap held.seat point → length held.seat.body ≤ 1025
+few_at held (points.Making Placing) e fits = let body = fits.0.0 in omega (arith, body.whole, object_need_within_limits held.seat.command body.makes.an_object body.makes.in_range)
+few_at held (points.Making Storing) e fits = let body = fits.0 in omega (arith, body.whole, object_need_within_limits held.seat.command body.makes.an_object body.makes.in_range)
 few_at held _ e fits = absurd (differ e)
   where
     differ : false ≡ true → ⊥
     differ e = cc
 
-pub body_has_few_fragments : (held : SeatHeld) → IsSound held → has_its_fragments held.seat.place ≡ true → length held.seat.body ≤ 1025
-body_has_few_fragments held sound e = few_at held held.seat.place e sound.fits.at_place
+pub body_has_few_fragments : (held : SeatHeld) → IsSound held → has_its_fragments held.seat.point ≡ true → length held.seat.body ≤ 1025
+body_has_few_fragments held sound e = few_at held held.seat.point e sound.fits.at_point

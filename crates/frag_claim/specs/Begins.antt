@@ -1,11 +1,11 @@
--- Where the call in flight stands when a part of it begins that gathers or gives back.
+-- Where the call in flight stands when gathering or giving back begins.
 use Rattle.std.specs.Prelude.{◌≡◌, ℕ, ◌≤◌, List, length}
 use Rattle.heap_model.specs.Limits.{most_reserve}
 use Rattle.heap_model.specs.Needs.{need_of, spine_need_of}
-use Rattle.core_machine.specs.declared.place.Place.TheVariants.{Leaving}
+use Rattle.core_machine.specs.declared.point.Point.TheVariants.{Leaving}
 use Rattle.core_machine.specs.seat.Commands.{MakesObject, IsArrayCall}
 use Rattle.core_machine.specs.seat.Fits.{IsAtRest}
-use Rattle.core_machine.specs.seat.Handshake.{leave_place}
+use Rattle.core_machine.specs.seat.Handshake.{leave_point}
 use Rattle.core_machine.specs.seat.Making.{gather_next}
 use Rattle.core_machine.specs.seat.Seat.{Seat}
 use Rattle.heap_table.specs.SeatHeld.{SeatHeld}
@@ -25,5 +25,5 @@ pub record BeginsGathering (held : SeatHeld) (reserve : List ℕ) (cursor need :
 
 -- the seat is to leave, and this is its reserve
 pub record BeginsEmptying (held : SeatHeld) (reserve : List ℕ) : Type 0 where
-  pub place_is : held.seat.place ≡ Leaving (leave_place held.seat.reserve)
+  pub point_is : held.seat.point ≡ Leaving (leave_point held.seat.reserve)
   pub reserve_is : held.seat.reserve ≡ reserve

@@ -1,10 +1,10 @@
 -- What a gather has come to, by the steps that it made.
 use Rattle.std.specs.Prelude.{◌≡◌, ℕ, ◌+◌, ◌%◌, ◌<◌, ◌≤◌, true, false, List, [], ◌++◌, length, take, drop}
 use Rattle.core_machine.specs.calls.Claims.{AreOfTried, ClaimsGroup}
-use Rattle.core_machine.specs.declared.place.Place.TheVariants as places
+use Rattle.core_machine.specs.declared.point.Point.TheVariants as points
 use Rattle.core_machine.specs.declared.step.MakingStep.TheVariants.{Claim}
 use Rattle.core_machine.specs.declared.step.Step.TheVariants.{Making}
-use Rattle.core_machine.specs.seat.Making.{settled_place}
+use Rattle.core_machine.specs.seat.Making.{settled_point}
 use Rattle.core_machine.specs.table.Fragments.{clear_in}
 use Rattle.core_machine.specs.table.Operation.{word_after}
 use Rattle.heap_table.specs.Made.{Made, FoundIn}
@@ -39,15 +39,15 @@ pub record IsExhausted (made : List Made) (groups : ℕ) (reserve : List ℕ) (f
 -- the object of the call has these fragments, and none of its words is stored
 pub record HasItsFragments (old new : SeatHeld) (fragments : List ℕ) : Type 0 where
   pub same : new.seat.command ≡ old.seat.command
-  pub place_is : new.seat.place ≡ places.Making (settled_place old.seat.command)
+  pub point_is : new.seat.point ≡ points.Making (settled_point old.seat.command)
   pub body_is : new.seat.body ≡ fragments
   pub none_stored : new.seat.stored ≡ 0
 
 -- claiming is over: the object has its fragments, or all that was claimed is to be given back; there is room for what is told still
 pub record EndsClaiming (held : SeatHeld) : Type 0 where
-  pub settled : has_its_fragments held.seat.place ≡ true → held.seat.place ≡ places.Making (settled_place held.seat.command)
-  pub returning : has_its_fragments held.seat.place ≡ false → IsGivingBack held.seat.place
+  pub settled : has_its_fragments held.seat.point ≡ true → held.seat.point ≡ points.Making (settled_point held.seat.command)
+  pub returning : has_its_fragments held.seat.point ≡ false → IsGivingBack held.seat.point
   pub none_given : held.seat.given ≡ 0
   pub none_stored : held.seat.stored ≡ 0
   pub room : 3 ≤ held.spare
-  pub room_to_return : has_its_fragments held.seat.place ≡ false → length held.seat.hand + 3 ≤ held.spare
+  pub room_to_return : has_its_fragments held.seat.point ≡ false → length held.seat.hand + 3 ≤ held.spare

@@ -1,35 +1,35 @@
 ghost use Rattle.std.specs.Prelude.{◌≡◌, ◌+◌, ◌*◌, ◌<◌, ◌≤◌, [], List, length, OnOk, OnErr, IfErr};
 ghost use Rattle.core_machine.specs.Moves.{due_step};
-ghost use Rattle.core_machine.specs.declared.place.Making.TheVariants.{Refusing};
-ghost use Rattle.core_machine.specs.declared.place.Place.TheVariants.{Making as Makes};
+ghost use Rattle.core_machine.specs.declared.point.Making.TheVariants.{Refusing};
+ghost use Rattle.core_machine.specs.declared.point.Point.TheVariants.{Making as Makes};
 ghost use Rattle.heap_table.specs.Made.{Made, MakesSteps, BySteps, IsSound};
 ghost use Rattle.frag_claim.specs.Begins.{BeginsGathering};
 ghost use Rattle.frag_claim.specs.Due.{due_of_claims as due_at_claims, due_of_returns as due_at_returns, has_its_fragments as has_fragments_at, IsGivingBack};
 ghost use Rattle.frag_claim.specs.Gathered.{EndsClaiming, HasGathered, HasItsFragments, IsExhausted};
 
 use crate::held::{Hand, Reserve, refill};
-use core_machine::{Entries, Making, Place, SeatParty, Step};
+use core_machine::{Entries, Making, Point, SeatParty, Step};
 use heap_model::Full;
 use heap_table::Holder;
 
 /// The claim that is due, while too little is gathered and some group wasn't claimed.
 fn due_of_claims<L: Entries>(holder: &Holder<L>) -> Option<Step>
-    ensures due { result ≡ due_at_claims holder.now.seat.place (due_step holder.now.heap holder.now.number holder.now.seat) }
+    ensures due { result ≡ due_at_claims holder.now.seat.point (due_step holder.now.heap holder.now.number holder.now.seat) }
     ensures sound { IsSound holder.now }
 {
-    match holder.party().place() {
-        Place::Making(Making::Gathering) => holder.due(),
+    match holder.party().point() {
+        Point::Making(Making::Gathering) => holder.due(),
         _ => None,
     }
 }
 
 /// The step that is due which gives back what was claimed of a group, while some is left.
 fn due_of_returns<L: Entries>(holder: &Holder<L>) -> Option<Step>
-    ensures due { result ≡ due_at_returns holder.now.seat.place (due_step holder.now.heap holder.now.number holder.now.seat) }
+    ensures due { result ≡ due_at_returns holder.now.seat.point (due_step holder.now.heap holder.now.number holder.now.seat) }
     ensures sound { IsSound holder.now }
 {
-    match holder.party().place() {
-        Place::Making(Making::GivingBack) => holder.due(),
+    match holder.party().point() {
+        Point::Making(Making::GivingBack) => holder.due(),
         _ => None,
     }
 }
@@ -52,10 +52,10 @@ fn claim_groups<L: Entries>(holder: &mut Holder<L>, reserve: &Reserve, need: u16
 
 /// Gives back all that was claimed, group by group.
 fn return_groups<L: Entries>(holder: &mut Holder<L>)
-    requires returning { IsGivingBack holder.old.seat.place }
+    requires returning { IsGivingBack holder.old.seat.point }
     requires room { length holder.old.seat.hand + 3 ≤ holder.old.spare }
     ensures steps { (made : List Made) × MakesSteps holder.old holder.new made }
-    ensures place { holder.new.seat.place ≡ Makes Refusing }
+    ensures point { holder.new.seat.point ≡ Makes Refusing }
     ensures all { holder.new.seat.given ≡ length holder.old.seat.hand + holder.old.seat.given }
     ensures sound { IsSound holder.new }
     ensures room { 3 ≤ holder.new.spare }
@@ -66,10 +66,10 @@ fn return_groups<L: Entries>(holder: &mut Holder<L>)
 }
 
 /// Whether a new object has its fragments, and none of its words is stored.
-fn has_its_fragments(place: Place) -> bool
-    ensures { result ≡ has_fragments_at place }
+fn has_its_fragments(point: Point) -> bool
+    ensures { result ≡ has_fragments_at point }
 {
-    matches!(place, Place::Making(Making::Placing | Making::Storing))
+    matches!(point, Point::Making(Making::Placing | Making::Storing))
 }
 
 /// Takes over what the seat has gathered, and what it keeps.
@@ -104,11 +104,11 @@ pub fn gather<L: Entries>(
     ensures full { IfErr result (λ full. (full.need ≡ need) × (full.found < need)) }
     ensures exhausted { IfErr result (λ full. BySteps holder.old holder.new (λ made. IsExhausted made holder.old.heap.groups reserve.old.fragments.items full.found)) }
     ensures given { OnErr result ((hand.new.fragments.items ≡ []) × (reserve.new.fragments.items ≡ reserve.old.fragments.items) × (reserve.new.cursor ≡ reserve.old.cursor)) }
-    ensures refusing { OnErr result (holder.new.seat.place ≡ Makes Refusing) }
+    ensures refusing { OnErr result (holder.new.seat.point ≡ Makes Refusing) }
     ensures room { 3 ≤ holder.new.spare }
 {
     claim_groups(holder, reserve, need);
-    if has_its_fragments(holder.party().place()) {
+    if has_its_fragments(holder.party().point()) {
         take_over(holder.party(), reserve, hand);
         return Ok(());
     }

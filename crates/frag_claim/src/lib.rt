@@ -1,4 +1,4 @@
-//! A call's part on the shared table: fragments are gathered for a new object, and a reserve is given back.
+//! Steps of a call on the shared table: fragments are gathered for a new object, and a reserve is given back.
 #![tactic(auto)]
 
 mod emptying;

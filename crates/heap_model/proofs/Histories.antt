@@ -28,8 +28,8 @@ KeepsSpaceAfter-more heap {play} before (first ∷ history) entry kept keeps =
     (kept.0, KeepsSpaceAfter-more heap (before ++ first ∷ []) history entry kept.1 (subst (λ b. KeepsSpace heap play b entry) (sym (append_assoc before (first ∷ []) history)) keeps))
 
 -- the sums grow by what the entry does
-pub total-more : (part : Effect → ℕ) (history : List Entry) (entry : Entry) → total part (history ++ entry ∷ []) ≡ total part history + part (effect_of entry)
-total-more part history entry = sum_by-append (λ e. part (effect_of e)) history (entry ∷ []) ∙ ap (λ n. total part history + n) (zero-add (part (effect_of entry)))
+pub total-more : (summand : Effect → ℕ) (history : List Entry) (entry : Entry) → total summand (history ++ entry ∷ []) ≡ total summand history + summand (effect_of entry)
+total-more summand history entry = sum_by-append (λ e. summand (effect_of e)) history (entry ∷ []) ∙ ap (λ n. total summand history + n) (zero-add (summand (effect_of entry)))
 
-pub total_of-more : (number : ℕ) (part : Effect → ℕ) (history : List Entry) (entry : Entry) → total_of number part (history ++ entry ∷ []) ≡ total_of number part history + cond (is_of number entry) (part (effect_of entry)) 0
-total_of-more number part history entry = sum_by-append (λ e. cond (is_of number e) (part (effect_of e)) 0) history (entry ∷ []) ∙ ap (λ n. total_of number part history + n) (zero-add (cond (is_of number entry) (part (effect_of entry)) 0))
+pub total_of-more : (number : ℕ) (summand : Effect → ℕ) (history : List Entry) (entry : Entry) → total_of number summand (history ++ entry ∷ []) ≡ total_of number summand history + cond (is_of number entry) (summand (effect_of entry)) 0
+total_of-more number summand history entry = sum_by-append (λ e. cond (is_of number e) (summand (effect_of e)) 0) history (entry ∷ []) ∙ ap (λ n. total_of number summand history + n) (zero-add (cond (is_of number entry) (summand (effect_of entry)) 0))

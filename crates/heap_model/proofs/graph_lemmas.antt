@@ -7,6 +7,6 @@ pub mod MadeLemmas
 pub mod MarkLemmas
 pub mod NoteLemmas
 pub mod OrderLemmas
-pub mod PlaceLemmas
+pub mod PositionLemmas
 pub mod SearchLemmas
 pub mod WalkLemmas

@@ -1,4 +1,4 @@
--- The parties' parts of a history.
+-- What each party has told in a history.
 use Rattle.std.specs.Prelude.{◌≡◌, ℕ, List, [], ◌∷◌, ◌++◌, map, filter}
 use Rattle.std.specs.List.{range_with_len}
 use Rattle.heap_model.specs.declared.entry.Entry.{Entry}

@@ -1,4 +1,4 @@
-/// The identity of an object: the board, or the seat that made it and its place among that seat's objects.
+/// The identity of an object: the board, or the seat that made it and its position among that seat's objects.
 #[derive(Clone, Copy, Debug, PartialEq, Eq, PartialOrd, Ord)]
 pub enum Id {
     Board,

@@ -1,7 +1,7 @@
 /// How many phases a cycle has.
 pub const CYCLE_PHASES: u64 = 7;
 
-/// The phases of a cycle by their places in it: no cycle is under way.
+/// The phases of a cycle by their positions in it: no cycle is under way.
 pub const REST: u64 = 0;
 
 /// Every barrier is on once all seats have answered.

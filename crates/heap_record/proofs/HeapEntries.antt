@@ -19,18 +19,18 @@ use Rattle.core_machine.specs.declared.collector.stage.Copying.{Copying}
 use Rattle.core_machine.specs.declared.collector.stage.Copying.TheVariants.{Swinging}
 use Rattle.core_machine.specs.declared.collector.stage.Stage.{Stage}
 use Rattle.core_machine.specs.declared.collector.stage.Stage.TheVariants as stages
-use Rattle.core_machine.specs.declared.place.Access.{Access}
-use Rattle.core_machine.specs.declared.place.Access.TheVariants as access
-use Rattle.core_machine.specs.declared.place.Collecting.{Collecting}
-use Rattle.core_machine.specs.declared.place.Collecting.TheVariants as collecting
-use Rattle.core_machine.specs.declared.place.Leaving.{Leaving}
-use Rattle.core_machine.specs.declared.place.Leaving.TheVariants as leaving
-use Rattle.core_machine.specs.declared.place.Making.{Making}
-use Rattle.core_machine.specs.declared.place.Making.TheVariants as making
-use Rattle.core_machine.specs.declared.place.Place.{Place}
-use Rattle.core_machine.specs.declared.place.Place.TheVariants as places
-use Rattle.core_machine.specs.declared.place.Polling.{Polling}
-use Rattle.core_machine.specs.declared.place.Polling.TheVariants as polling
+use Rattle.core_machine.specs.declared.point.Access.{Access}
+use Rattle.core_machine.specs.declared.point.Access.TheVariants as access
+use Rattle.core_machine.specs.declared.point.Collecting.{Collecting}
+use Rattle.core_machine.specs.declared.point.Collecting.TheVariants as collecting
+use Rattle.core_machine.specs.declared.point.Leaving.{Leaving}
+use Rattle.core_machine.specs.declared.point.Leaving.TheVariants as leaving
+use Rattle.core_machine.specs.declared.point.Making.{Making}
+use Rattle.core_machine.specs.declared.point.Making.TheVariants as making
+use Rattle.core_machine.specs.declared.point.Point.{Point}
+use Rattle.core_machine.specs.declared.point.Point.TheVariants as points
+use Rattle.core_machine.specs.declared.point.Polling.{Polling}
+use Rattle.core_machine.specs.declared.point.Polling.TheVariants as polling
 use Rattle.core_machine.specs.machine.Calls.{PlaysCall, call_events}
 use Rattle.core_machine.specs.machine.InnerCalls.{PlaysInner, inner_events, inner_entries}
 use Rattle.core_machine.specs.machine.Machine.{State, seat_at, Event, Begins, BeginsInner, Steps, Turns, found_by, entries, entries_shown, state_after, history}
@@ -72,8 +72,8 @@ module _ (number : ℕ) (seat : Seat) (words : List ℕ) (found : ℕ) where
   born_of_heap true = (refl, tt)
   born_of_heap false = tt
 
-  -- what the move at a place tells, call by call
-  making_of_heap : (heap : Heap) (place : Making) → AreOfHeap ((making_move heap number seat place).shows words found)
+  -- what the move at a point tells, call by call
+  making_of_heap : (heap : Heap) (point : Making) → AreOfHeap ((making_move heap number seat point).shows words found)
   making_of_heap heap making.Withdrawing = (refl, tt)
   making_of_heap heap making.Gathering = either_of_heap (length (clear_in (next_group_of heap seat) found) == 0) [] (Takes number (length (clear_in (next_group_of heap seat) found)) ∷ []) tt (refl, tt)
   making_of_heap heap making.GivingBack = (refl, tt)
@@ -81,33 +81,33 @@ module _ (number : ℕ) (seat : Seat) (words : List ℕ) (found : ℕ) where
   making_of_heap heap making.Bearing = born_of_heap (is_last_birth seat)
   making_of_heap heap _ = tt
 
-  access_of_heap : (heap : Heap) (place : Access) → AreOfHeap ((access_move heap number seat place).shows words found)
+  access_of_heap : (heap : Heap) (point : Access) → AreOfHeap ((access_move heap number seat point).shows words found)
   access_of_heap heap access.LoadingMeta = reply_of_heap (meta_reply_of seat.command found)
   access_of_heap heap access.Getting = got_of_heap heap (head_of found)
   access_of_heap heap access.Swapping = (refl, tt)
   access_of_heap heap _ = tt
 
-  polling_of_heap : (place : Polling) → AreOfHeap ((polling_move number seat place).shows words found)
+  polling_of_heap : (point : Polling) → AreOfHeap ((polling_move number seat point).shows words found)
   polling_of_heap polling.Asking = either_of_heap (found == seat.answered) (phase_told number seat.command found) [] (phase_of_heap seat.command found) tt
   polling_of_heap polling.Shading = tt
   polling_of_heap polling.Answering = (refl, phase_of_heap seat.command seat.asked)
 
-  collecting_of_heap : (place : Collecting) → AreOfHeap ((collecting_move number seat place).shows words found)
+  collecting_of_heap : (point : Collecting) → AreOfHeap ((collecting_move number seat point).shows words found)
   collecting_of_heap (collecting.Noting reply) = (refl, tt)
   collecting_of_heap _ = tt
 
-  leaving_of_heap : (place : Leaving) → AreOfHeap ((leaving_move number seat place).shows words found)
+  leaving_of_heap : (point : Leaving) → AreOfHeap ((leaving_move number seat point).shows words found)
   leaving_of_heap leaving.Emptying = (refl, tt)
   leaving_of_heap leaving.Parting = (refl, tt)
 
-place_of_heap : (heap : Heap) (state : State) (number : ℕ) (seat : Seat) (place : Place) → AreOfHeap (entries_shown heap state (move_at heap number seat place))
-place_of_heap heap state number seat places.Idle = tt
-place_of_heap heap state number seat (places.Making place) = making_of_heap number seat state.words (found_by heap state (making_move heap number seat place).step) heap place
-place_of_heap heap state number seat places.Local = (refl, tt)
-place_of_heap heap state number seat (places.Access place) = access_of_heap number seat state.words (found_by heap state (access_move heap number seat place).step) heap place
-place_of_heap heap state number seat (places.Polling place) = polling_of_heap number seat state.words (found_by heap state (polling_move number seat place).step) place
-place_of_heap heap state number seat (places.Collecting place) = collecting_of_heap number seat state.words (found_by heap state (collecting_move number seat place).step) place
-place_of_heap heap state number seat (places.Leaving place) = leaving_of_heap number seat state.words (found_by heap state (leaving_move number seat place).step) place
+point_of_heap : (heap : Heap) (state : State) (number : ℕ) (seat : Seat) (point : Point) → AreOfHeap (entries_shown heap state (move_at heap number seat point))
+point_of_heap heap state number seat points.Idle = tt
+point_of_heap heap state number seat (points.Making point) = making_of_heap number seat state.words (found_by heap state (making_move heap number seat point).step) heap point
+point_of_heap heap state number seat points.Local = (refl, tt)
+point_of_heap heap state number seat (points.Access point) = access_of_heap number seat state.words (found_by heap state (access_move heap number seat point).step) heap point
+point_of_heap heap state number seat (points.Polling point) = polling_of_heap number seat state.words (found_by heap state (polling_move number seat point).step) point
+point_of_heap heap state number seat (points.Collecting point) = collecting_of_heap number seat state.words (found_by heap state (collecting_move number seat point).step) point
+point_of_heap heap state number seat (points.Leaving point) = leaving_of_heap number seat state.words (found_by heap state (leaving_move number seat point).step) point
 
 -- what a turn tells
 copying_of_heap : (stage : Copying) → AreOfHeap (copying_adds stage)
@@ -126,7 +126,7 @@ turn_of_heap heap collector _ = tt
 pub event_entries_are_of_heap : (heap : Heap) (state : State) (event : Event) → AreOfHeap (entries heap state event)
 event_entries_are_of_heap heap state (Begins number command) = tt
 event_entries_are_of_heap heap state (BeginsInner number inner) = tt
-event_entries_are_of_heap heap state (Steps number) = place_of_heap heap state number (seat_at state number) (seat_at state number).place
+event_entries_are_of_heap heap state (Steps number) = point_of_heap heap state number (seat_at state number) (seat_at state number).point
 event_entries_are_of_heap heap state Turns = turn_of_heap heap state.collector state.collector.stage
 
 pub history_is_of_heap : (heap : Heap) (state : State) (events : List Event) → AreOfHeap (history heap state events)

@@ -9,7 +9,7 @@ use Rattle.heap_model.specs.declared.entry.Entry.{Entry}
 use Rattle.heap_model.specs.declared.heap.Heap.{Heap}
 use Rattle.heap_model.specs.declared.reply.Reply.{Reply}
 use Rattle.heap_model.specs.Heap.{IsHeap}
-use Rattle.core_machine.specs.declared.place.Place.TheVariants.{Idle}
+use Rattle.core_machine.specs.declared.point.Point.TheVariants.{Idle}
 use Rattle.core_machine.specs.machine.Calls.{call_events}
 use Rattle.core_machine.specs.machine.InnerCalls.{inner_events}
 use Rattle.core_machine.specs.machine.Machine.{State, seat_at, Event, Turns, Run, state_after_all, history}
@@ -50,10 +50,10 @@ module _ (Are : Heap → State → List Event → Type 0) (heap : Heap) (state :
       }
 
   -- where one seat alone has changed and has no call in flight, none has
-  idle_but : (new : State) (number : ℕ) → SameBut number state new → (seat_at new number).place ≡ Idle → AllIdle new
-  idle_but new number others idle other below = elim (eqb_tells other number) as (λ _. (seat_at new other).place ≡ Idle) [
-    | inl same ↦ subst (λ (n : ℕ). (seat_at new n).place ≡ Idle) (sym same.1) idle
-    | inr apart ↦ ap (λ (t : Seat). t.place) (others.others other apart.1) ∙ led.all_idle other (omega (arith, below, others.seats))
+  idle_but : (new : State) (number : ℕ) → SameBut number state new → (seat_at new number).point ≡ Idle → AllIdle new
+  idle_but new number others idle other below = elim (eqb_tells other number) as (λ _. (seat_at new other).point ≡ Idle) [
+    | inl same ↦ subst (λ (n : ℕ). (seat_at new n).point ≡ Idle) (sym same.1) idle
+    | inr apart ↦ ap (λ (t : Seat). t.point) (others.others other apart.1) ∙ led.all_idle other (omega (arith, below, others.seats))
   ]
 
 module _ (Are : Heap → State → List Event → Type 0) (old new : Recorded) (led : EventsLeadTo Are old.machine.heap old.machine.state old.history) where
@@ -74,7 +74,7 @@ module _ (Are : Heap → State → List Event → Type 0) (old new : Recorded) (
       let heap = old.machine.heap in
       let plays = makes.plays in
       let others = others_same_after_inner heap old.machine.state new.machine.state number inner plays in
-      let idle = ap (λ (t : Seat). t.place) plays.seat ∙ led.all_idle number plays.can.0.0 in
+      let idle = ap (λ (t : Seat). t.point) plays.seat ∙ led.all_idle number plays.can.0.0 in
       rw (makes.same_heap, makes.noted) (led_more Are heap old.machine.state old.history led new.machine.state _ (inner_events number inner plays.steps) plays.can plays.ends plays.shown
       (idle_but Are heap old.machine.state old.history led new.machine.state number others idle) are)
 

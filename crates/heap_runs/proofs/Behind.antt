@@ -30,7 +30,7 @@ record PartsAt {X : Type 0} (test : X → Bool) (all : List X) : Type 0 where
   passes : test found ≡ true
   parts : all ≡ before ++ found ∷ rest
 
--- where some element passes there is such a place
+-- where some element passes there is such a position
 first_passing : {X : Type 0} (test : X → Bool) (all : List X) → list_any test all ≡ true → PartsAt test all
 first_passing test [] some = absurd (cc some)
 first_passing {X} test (x ∷ all) some = by (first_passing test all) (test x) refl some

@@ -171,8 +171,8 @@ next_command_is_ready old ready command may room enough =
     }
 
 -- one command more
-pub goes_on_one_command : (patience : ℕ) (old now new : SeatHeld) (script : List Command) (place : ℕ) (command other : Command) → place < length script → command ≡ slice_index_or script place other → GoesOn patience old now (take place script)
-    → GoesOn patience now new (command ∷ []) → GoesOn patience old new (take (place + 1) script)
-goes_on_one_command patience old now new script place command other within is one more =
-    let further : take (place + 1) script ≡ take place script ++ command ∷ [] = take_more script place other within ∙ ap (λ (c : Command). take place script ++ c ∷ []) (sym is) in
-    subst (GoesOn patience old new) (sym further) (goes_then patience old now new (take place script) (command ∷ []) one more)
+pub goes_on_one_command : (patience : ℕ) (old now new : SeatHeld) (script : List Command) (position : ℕ) (command other : Command) → position < length script → command ≡ slice_index_or script position other → GoesOn patience old now (take position script)
+    → GoesOn patience now new (command ∷ []) → GoesOn patience old new (take (position + 1) script)
+goes_on_one_command patience old now new script position command other within is one more =
+    let further : take (position + 1) script ≡ take position script ++ command ∷ [] = take_more script position other within ∙ ap (λ (c : Command). take position script ++ c ∷ []) (sym is) in
+    subst (GoesOn patience old new) (sym further) (goes_then patience old now new (take position script) (command ∷ []) one more)

@@ -22,17 +22,17 @@ use Rattle.heap_record.specs.LastCycle.{EndsWholeCycle}
 use Rattle.collector_turns.specs.Collector.{CollectorValue, state_of}
 use Rattle.collector_turns.specs.Turning.{TakesTurn, MakesRoom}
 use Rattle.heap_runs.specs.Finishing.{HasGone, HasLogs, EndsUnused, folded_in}
-use Rattle.heap_runs.proofs.Folding.{places_of, folded_seats_are_places, folding_keeps_collector, folded_phase_is_current}
+use Rattle.heap_runs.proofs.Folding.{slots_of, folded_seats_are_slots, folding_keeps_collector, folded_phase_is_current}
 use Rattle.heap_runs.proofs.TurnsKeep.{KeepsFolded, turns_keep_folded}
 use Rattle.heap_runs.proofs.Unused.{known_logs_are_lists, history_ends_unused}
 
--- each of these seats stands in its place
-placed : (seats : List SeatHeld) (n : ℕ) → n < length seats → (seat : Seat) × IsFolded (places_of seats) n seat
-placed [] n below = absurd (omega (arith, below))
-placed (held ∷ seats) zero below = (held.seat, refl)
-placed (held ∷ seats) (suc n) below = placed seats n (omega (arith, below))
+-- each of these seats stands in its slot
+slot_has_seat : (seats : List SeatHeld) (n : ℕ) → n < length seats → (seat : Seat) × IsFolded (slots_of seats) n seat
+slot_has_seat [] n below = absurd (omega (arith, below))
+slot_has_seat (held ∷ seats) zero below = (held.seat, refl)
+slot_has_seat (held ∷ seats) (suc n) below = slot_has_seat seats n (omega (arith, below))
 
-module _ (start folded last : CollectorHeld) (seats : List SeatHeld) (begun ended : CollectorValue) (limits : IsHeap start.heap) (places : length start.known.seats ≡ start.heap.seats)
+module _ (start folded last : CollectorHeld) (seats : List SeatHeld) (begun ended : CollectorValue) (limits : IsHeap start.heap) (seat_slots : length start.known.seats ≡ start.heap.seats)
     (numbers : map (λ held. held.number) seats ≡ range_with_len 0 start.heap.seats) (folds : folded ≡ record start { known = fold folded_in start.known seats })
     (begins : begun ≡ record { holder = folded; last_turn = None }) (cycle : EndsWholeCycle state_of MakesRoom TakesTurn begun ended) (last_is : last ≡ ended.holder) where
   kept : KeepsFolded begun ended
@@ -47,14 +47,14 @@ module _ (start folded last : CollectorHeld) (seats : List SeatHeld) (begun ende
   known_begun : begun.holder.known ≡ fold folded_in start.known seats
   known_begun = ap (λ (v : CollectorValue). v.holder.known) begins ∙ ap (λ (h : CollectorHeld). h.known) folds
 
-  seats_are : last.known.seats ≡ places_of seats
+  seats_are : last.known.seats ≡ slots_of seats
   seats_are = ap (λ (h : CollectorHeld). h.known.seats) last_is ∙ kept.seats_stay ∙ ap (λ (k : CollectorKnown). k.seats) known_begun
-      ∙ folded_seats_are_places seats start.known (numbers ∙ ap (range_with_len 0) (sym places))
+      ∙ folded_seats_are_slots seats start.known (numbers ∙ ap (range_with_len 0) (sym seat_slots))
 
   -- every seat was folded in
   pub all_are_folded : AllFolded last.heap last.known.seats
   all_are_folded number below =
-      let there = placed seats number (omega (arith, below, many, ap (λ (h : Heap). h.seats) heap_stays_the_same)) in
+      let there = slot_has_seat seats number (omega (arith, below, many, ap (λ (h : Heap). h.seats) heap_stays_the_same)) in
       (there.0, subst (λ l. IsFolded l number there.0) (sym seats_are) there.1)
 
   collector_begun : begun.holder.known.collector ≡ start.known.collector

@@ -12,36 +12,36 @@ use Rattle.heap_table.specs.Known.{CollectorKnown}
 use Rattle.heap_table.specs.SeatHeld.{SeatHeld}
 use Rattle.heap_runs.specs.Finishing.{HasGone, folded_in}
 
--- the places of these seats
-abbrev pub places_of : List SeatHeld → List (Option Seat)
-places_of seats = map (λ held. Some held.seat) seats
+-- the slots of these seats
+abbrev pub slots_of : List SeatHeld → List (Option Seat)
+slots_of seats = map (λ held. Some held.seat) seats
 
--- the seats that follow one another stand in the places that do
+-- the seats that follow one another stand in the slots that do
 seats_from : (seats : List SeatHeld) (known : CollectorKnown) (k : ℕ) → map (λ held. held.number) seats ≡ range_with_len k (length seats) → k + length seats ≤ length known.seats
-    → (fold folded_in known seats).seats ≡ take k known.seats ++ (places_of seats ++ drop (k + length seats) known.seats)
+    → (fold folded_in known seats).seats ≡ take k known.seats ++ (slots_of seats ++ drop (k + length seats) known.seats)
 seats_from [] known k numbers fits = sym (take-append-drop k known.seats) ∙ ap (λ n. take k known.seats ++ drop n known.seats) (omega arith)
 seats_from (held ∷ seats) known k numbers fits =
     let number : held.number ≡ k = cc numbers in
     let there : slice_set known.seats held.number (Some held.seat) ≡ slice_set known.seats k (Some held.seat) = ap (λ (n : ℕ). slice_set known.seats n (Some held.seat)) number in
     let many = length-set known.seats held.number (Some held.seat) in
     let later = seats_from seats (folded_in known held) (k + 1) (cc numbers) (omega (arith, fits, many)) in
-    let place : Option Seat = Some held.seat in
+    let slot : Option Seat = Some held.seat in
     let after = k + 1 + length seats in
     let next : k + 1 ≡ suc k = omega arith in
-    let front : take (k + 1) (slice_set known.seats k place) ≡ take k known.seats ++ place ∷ []
-    = ap (λ n. take n (slice_set known.seats k place)) next ∙ take-suc-set known.seats k place (omega (arith, fits)) in
-    later ∙ ap (λ l. take (k + 1) l ++ (places_of seats ++ drop after l)) there
-    ∙ ap (λ l. l ++ (places_of seats ++ drop after (slice_set known.seats k place))) front
-    ∙ ap (λ l. (take k known.seats ++ place ∷ []) ++ (places_of seats ++ l)) (drop-set-lt after known.seats k place (omega arith))
-    ∙ append_assoc (take k known.seats) (place ∷ []) (places_of seats ++ drop after known.seats)
-    ∙ ap (λ n. take k known.seats ++ (place ∷ (places_of seats ++ drop n known.seats))) (omega arith)
+    let front : take (k + 1) (slice_set known.seats k slot) ≡ take k known.seats ++ slot ∷ []
+    = ap (λ n. take n (slice_set known.seats k slot)) next ∙ take-suc-set known.seats k slot (omega (arith, fits)) in
+    later ∙ ap (λ l. take (k + 1) l ++ (slots_of seats ++ drop after l)) there
+    ∙ ap (λ l. l ++ (slots_of seats ++ drop after (slice_set known.seats k slot))) front
+    ∙ ap (λ l. (take k known.seats ++ slot ∷ []) ++ (slots_of seats ++ l)) (drop-set-lt after known.seats k slot (omega arith))
+    ∙ append_assoc (take k known.seats) (slot ∷ []) (slots_of seats ++ drop after known.seats)
+    ∙ ap (λ n. take k known.seats ++ (slot ∷ (slots_of seats ++ drop n known.seats))) (omega arith)
 
--- all seats stand in all places
-pub folded_seats_are_places : (seats : List SeatHeld) (known : CollectorKnown) → map (λ held. held.number) seats ≡ range_with_len 0 (length known.seats) → (fold folded_in known seats).seats ≡ places_of seats
-folded_seats_are_places seats known numbers =
+-- all seats stand in all slots
+pub folded_seats_are_slots : (seats : List SeatHeld) (known : CollectorKnown) → map (λ held. held.number) seats ≡ range_with_len 0 (length known.seats) → (fold folded_in known seats).seats ≡ slots_of seats
+folded_seats_are_slots seats known numbers =
     let many : length seats ≡ length known.seats = sym (length-map seats (λ (held : SeatHeld). held.number)) ∙ ap length numbers ∙ length-range_with_len 0 (length known.seats) in
     let same : map (λ held. held.number) seats ≡ range_with_len 0 (length seats) = numbers ∙ ap (range_with_len 0) (sym many) in
-    seats_from seats known 0 same (omega (arith, many)) ∙ ap (λ l. places_of seats ++ l) (drop_all (0 + length seats) known.seats (omega (arith, many))) ∙ append-nil (places_of seats)
+    seats_from seats known 0 same (omega (arith, many)) ∙ ap (λ l. slots_of seats ++ l) (drop_all (0 + length seats) known.seats (omega (arith, many))) ∙ append-nil (slots_of seats)
 
 -- folding in changes nothing else but the phase of the last fold
 pub folding_keeps_collector : (seats : List SeatHeld) (known : CollectorKnown) → (fold folded_in known seats).collector ≡ known.collector

@@ -26,7 +26,7 @@ use Rattle.heap_runs.specs.SeatWork.{IsOfScript, IsReadyToWork, script_at}
 -- such a seat is between two calls
 pub between_opened : (table : TableId) (heap : Heap) (held : SeatHeld) → IsOpened table heap held → IsBetweenCalls held
 between_opened table heap held opened = record {
-  idle = ap (λ (s : Seat). s.place) opened.seat_is;
+  idle = ap (λ (s : Seat). s.point) opened.seat_is;
   own = subst (λ (s : Seat). All (IsOwn held.number) s.mine) (sym opened.seat_is) (All-nil (IsOwn held.number));
   stamps = omega (arith, ap (λ (s : Seat). s.sets) opened.seat_is);
 }

@@ -22,15 +22,15 @@ use Rattle.heap_table.specs.SeatHeld.{SeatHeld}
 use Rattle.log_merge.proofs.SameLogs.{snoc_is_injective}
 use Rattle.heap_runs.specs.Finishing.{HasGone, EndsUnused}
 use Rattle.heap_runs.proofs.Behind.{gone_is_told, ends_behind_leaves}
-use Rattle.heap_runs.proofs.Folding.{places_of}
+use Rattle.heap_runs.proofs.Folding.{slots_of}
 
--- the logs in the places of seats are the seats' own lists
-logs_there : (seats : List SeatHeld) → map (λ place. option_map_or (λ (seat : Seat). seat.mine) place []) (places_of seats) ≡ map (λ (held : SeatHeld). held.seat.mine) seats
+-- the logs in the slots of seats are the seats' own lists
+logs_there : (seats : List SeatHeld) → map (λ slot. option_map_or (λ (seat : Seat). seat.mine) slot []) (slots_of seats) ≡ map (λ (held : SeatHeld). held.seat.mine) seats
 logs_there [] = refl
 logs_there (held ∷ seats) = ap (λ l. held.seat.mine ∷ l) (logs_there seats)
 
-pub known_logs_are_lists : (known : CollectorKnown) (seats : List SeatHeld) → known.seats ≡ places_of seats → logs_known known ≡ map (λ (held : SeatHeld). held.seat.mine) seats ++ known.collector.log ∷ []
-known_logs_are_lists known seats places = ap (λ l. map (λ place. option_map_or (λ (seat : Seat). seat.mine) place []) l ++ known.collector.log ∷ []) places ∙ ap (λ l. l ++ known.collector.log ∷ []) (logs_there seats)
+pub known_logs_are_lists : (known : CollectorKnown) (seats : List SeatHeld) → known.seats ≡ slots_of seats → logs_known known ≡ map (λ (held : SeatHeld). held.seat.mine) seats ++ known.collector.log ∷ []
+known_logs_are_lists known seats seat_slots = ap (λ l. map (λ slot. option_map_or (λ (seat : Seat). seat.mine) slot []) l ++ known.collector.log ∷ []) seat_slots ∙ ap (λ l. l ++ known.collector.log ∷ []) (logs_there seats)
 
 module _ (table : TableId) (heap : Heap) (history : List Entry) where
   -- of seats that follow one another, whose lists are their parts of the history, each has left by the history

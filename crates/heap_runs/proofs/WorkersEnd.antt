@@ -17,10 +17,10 @@ pub all_have_worked : (patience : ℕ) (scripts : List (List Command)) (olds bac
     → HaveWorked patience scripts olds back
 all_have_worked patience scripts olds back ends ended is = record {
   each_once = sym (length-map back ok_of) ∙ sym (ap (length {A = Result SeatHeld Memory}) is) ∙ ended.each_once;
-  each = λ place old new was now.
-      let here : slice_get ends place ≡ Some (Ok new) =
-      ap (λ (l : List (Result SeatHeld Memory)). slice_get l place) is ∙ slice_get-map ok_of back place ∙ ap (option_map ok_of) now in
-      ended.each place old (Ok new) was here;
+  each = λ position old new was now.
+      let here : slice_get ends position ≡ Some (Ok new) =
+      ap (λ (l : List (Result SeatHeld Memory)). slice_get l position) is ∙ slice_get-map ok_of back position ∙ ap (option_map ok_of) now in
+      ended.each position old (Ok new) was here;
 }
 
 -- what follows of a value follows of the value where there is one

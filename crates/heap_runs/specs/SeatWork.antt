@@ -83,9 +83,9 @@ pub record IsReadyToWork (table : TableId) (heap : Heap) (scripts : List (List C
 -- each worker that came to its end has worked on the script of its seat's number, and they stand in the same order
 pub record HaveEnded (patience : ℕ) (scripts : List (List Command)) (olds : List SeatHeld) (ends : List (Result SeatHeld Memory)) : Type 0 where
   pub each_once : length ends ≡ length olds
-  pub each : (place : ℕ) (old : SeatHeld) (end : Result SeatHeld Memory) → slice_get olds place ≡ Some old → slice_get ends place ≡ Some end → IfOk end (HasWorked patience old (script_at scripts old.number))
+  pub each : (position : ℕ) (old : SeatHeld) (end : Result SeatHeld Memory) → slice_get olds position ≡ Some old → slice_get ends position ≡ Some end → IfOk end (HasWorked patience old (script_at scripts old.number))
 
 -- each seat has worked on the script of its number, and they stand in the same order
 pub record HaveWorked (patience : ℕ) (scripts : List (List Command)) (olds news : List SeatHeld) : Type 0 where
   pub each_once : length news ≡ length olds
-  pub each : (place : ℕ) (old new : SeatHeld) → slice_get olds place ≡ Some old → slice_get news place ≡ Some new → HasWorked patience old (script_at scripts old.number) new
+  pub each : (position : ℕ) (old new : SeatHeld) → slice_get olds position ≡ Some old → slice_get news position ≡ Some new → HasWorked patience old (script_at scripts old.number) new

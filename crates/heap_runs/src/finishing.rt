@@ -54,7 +54,7 @@ pub fn finish<R: Wait>(
 {
     law_sweep_exact();
     let mut holder = collector.into_holder();
-    // What is true of every collector's places is known from here on.
+    // What is true of every collector's slots is known from here on.
     let _ = holder.heap();
     fold_all(&mut holder, seats);
     let mut collector = Collector::make(holder);

@@ -60,7 +60,7 @@ module _ (heap : Heap) (known : CollectorKnown) (all : AllFolded heap known.seat
         collector_is = holds.is.collector_is ∙ ap (λ (k : CollectorKnown). k.collector) its.known_is;
         counted = length-set table.views 0 (collector_view (with_closed known word)) ∙ holds.is.counted ∙ ap (λ (k : CollectorKnown). suc k.handed) its.known_is;
         few = subst (λ (k : CollectorKnown). k.handed ≤ heap.seats) its.known_is holds.is.few;
-        places = subst (λ (k : CollectorKnown). length k.seats ≡ heap.seats) its.known_is holds.is.places;
+        seat_slots = subst (λ (k : CollectorKnown). length k.seats ≡ heap.seats) its.known_is holds.is.seat_slots;
         seats_are = λ s within. subst (λ (v : Found View). IsSeatOf heap known.seats s v (seat_at holds.state s)) (sym (view_stays s))
             (subst (λ (k : CollectorKnown). IsSeatOf heap k.seats s (get_elem? table.views (suc s)) (seat_at holds.state s)) its.known_is (holds.is.seats_are s within));
         spent = λ s seat folded. view_stays s ∙ holds.is.spent s seat (subst (λ (k : CollectorKnown). IsFolded k.seats s seat) (sym its.known_is) folded);

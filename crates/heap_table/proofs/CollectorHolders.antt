@@ -39,8 +39,8 @@ use Rattle.heap_table.proofs.Turns.{rule_allows_turn, next_turn_may}
 abbrev pub TurnTells : Heap → Me (Unit {0}) View → ℕ → Me (Unit {0}) View → Type 0
 TurnTells heap me = Tells (λ n. collector_view (next_known heap (known_by me.0) n)) (ToldAtTurn heap (known_by me.0).collector) me
 
-module _ (shared : TableId) (key : Heap) (mine : TableId) (me : Me (Unit {0}) View) (heap : Heap) (collector : Collector) (places : List (Option SeatWithRoom)) (folded : ℕ)
-    (keeps : KeepsCollector shared key mine me heap collector places folded) where
+module _ (shared : TableId) (key : Heap) (mine : TableId) (me : Me (Unit {0}) View) (heap : Heap) (collector : Collector) (seat_slots : List (Option SeatWithRoom)) (folded : ℕ)
+    (keeps : KeepsCollector shared key mine me heap collector seat_slots folded) where
   abbrev known : CollectorKnown
   known = known_by me.0
 
@@ -83,7 +83,7 @@ module _ (shared : TableId) (key : Heap) (mine : TableId) (me : Me (Unit {0}) Vi
 
   -- what the holder keeps after the turn
   pub keeps_collector_after_turn : (mine' : TableId) (me' : Me (Unit {0}) View) (next : Collector) (found : ℕ) → mine' ≡ mine → TurnTells heap me found me' → next ≡ next_collector heap collector found
-      → KeepsCollector shared key mine' me' heap next places folded
+      → KeepsCollector shared key mine' me' heap next seat_slots folded
   keeps_collector_after_turn mine' me' next found same tells is =
       let known_is : known_by me'.0 ≡ next_known heap known found = ap (λ (m : Me (Unit {0}) View). known_by m.0) tells.0 in
       let collector_is : (known_by me'.0).collector ≡ next = ap (λ (k : CollectorKnown). k.collector) known_is ∙ ap (λ (c : Collector). next_collector heap c found) keeps.collector_is ∙ sym is in
@@ -95,7 +95,7 @@ module _ (shared : TableId) (key : Heap) (mine : TableId) (me : Me (Unit {0}) Vi
         };
         collector_is = collector_is;
         seats_are = keeps.seats_are ∙ ap (λ (k : CollectorKnown). k.seats) (sym known_is);
-        a_place_each = keeps.a_place_each;
+        a_slot_each = keeps.a_slot_each;
         folded_is = ap (λ (k : CollectorKnown). k.folded) known_is ∙ keeps.folded_is;
         unread = ap (λ (k : CollectorKnown). k.closed) known_is ∙ keeps.unread;
         fits = subst (CollectorFits heap) (ap (λ (k : CollectorKnown). k.collector) (sym known_is) ∙ collector_is) tells.1.fits;
@@ -112,10 +112,10 @@ module _ (shared : TableId) (key : Heap) (mine : TableId) (me : Me (Unit {0}) Vi
       (folding_is_allowed heap known number seat left id other)))
 
   -- what the holder keeps after that
-  pub keeps_collector_after_fold : (mine' : TableId) (me' : Me (Unit {0}) View) (places' : List (Option SeatWithRoom)) (now number : ℕ) (seat : Seat) (party : SeatWithRoom) (view : View)
-      → mine' ≡ mine → me' ≡ (folding_view me.0 view, me.1) → view ≡ seat_view number seat → places' ≡ set places number (Some party) → party.seat ≡ seat → now ≡ collector.phase
-      → KeepsCollector shared key mine' me' heap collector places' now
-  keeps_collector_after_fold mine' me' places' now number seat party view same me_is view_is places_are party_is now_is =
+  pub keeps_collector_after_fold : (mine' : TableId) (me' : Me (Unit {0}) View) (seat_slots' : List (Option SeatWithRoom)) (now number : ℕ) (seat : Seat) (party : SeatWithRoom) (view : View)
+      → mine' ≡ mine → me' ≡ (folding_view me.0 view, me.1) → view ≡ seat_view number seat → seat_slots' ≡ set seat_slots number (Some party) → party.seat ≡ seat → now ≡ collector.phase
+      → KeepsCollector shared key mine' me' heap collector seat_slots' now
+  keeps_collector_after_fold mine' me' seat_slots' now number seat party view same me_is view_is seat_slots_are party_is now_is =
       let known_is : known_by me'.0 ≡ with_folded known number seat = ap (λ (m : Me (Unit {0}) View). known_by m.0) me_is ∙ ap (λ (v : View). known_by (folding_view me.0 v)) view_is in
       record {
         token = record {
@@ -125,9 +125,9 @@ module _ (shared : TableId) (key : Heap) (mine : TableId) (me : Me (Unit {0}) Vi
               (ap (λ (v : View). known_by (folding_view me.0 v)) view_is ∙ sym known_is);
         };
         collector_is = ap (λ (k : CollectorKnown). k.collector) known_is ∙ keeps.collector_is;
-        seats_are = ap seats_in places_are ∙ seats_set places number party ∙ ap (λ (l : List (Option Seat)). set l number (Some party.seat)) keeps.seats_are
+        seats_are = ap seats_in seat_slots_are ∙ seats_set seat_slots number party ∙ ap (λ (l : List (Option Seat)). set l number (Some party.seat)) keeps.seats_are
             ∙ ap (λ (s : Seat). set known.seats number (Some s)) party_is ∙ ap (λ (k : CollectorKnown). k.seats) (sym known_is);
-        a_place_each = ap length places_are ∙ length-set places number (Some party) ∙ keeps.a_place_each;
+        a_slot_each = ap length seat_slots_are ∙ length-set seat_slots number (Some party) ∙ keeps.a_slot_each;
         folded_is = ap (λ (k : CollectorKnown). k.folded) known_is ∙ ap (λ (c : Collector). c.phase) keeps.collector_is ∙ sym now_is;
         unread = ap (λ (k : CollectorKnown). k.closed) known_is ∙ keeps.unread;
         fits = keeps.fits;
@@ -139,7 +139,7 @@ module _ (shared : TableId) (key : Heap) (mine : TableId) (me : Me (Unit {0}) Vi
       seats_set (x ∷ l) zero p = refl
       seats_set (x ∷ l) (suc i) p = ap (λ (m : List (Option Seat)). option_map (λ (q : SeatWithRoom). q.seat) x ∷ m) (seats_set l i p)
 
--- what holds of the holder as contracts see it holds of its parts
+-- what holds of the holder as contracts see it holds of its fields
 pub due_turn_is_step : (whole value : CollectorHeld) (step : Step) → whole ≡ value → (next_turn value.heap value.known.collector).step ≡ step → (next_turn whole.heap whole.known.collector).step ≡ step
 due_turn_is_step whole value step is due = subst (λ (v : CollectorHeld). (next_turn v.heap v.known.collector).step ≡ step) (sym is) due
 
@@ -160,25 +160,25 @@ quiet_turn_is_turned old new step found due quiet turned = record {
 pub table_has_words : (heap : Heap) (words : ℕ) → words ≡ table_length heap → 0 < words
 table_has_words heap words is = omega (arith, is)
 
--- there is a seat in each place exactly where every seat was folded in
-all_there : (places : List (Option SeatWithRoom)) → list_all is_some places ≡ true → (number : ℕ) → number < length places → (seat : Seat) × IsFolded (seats_in places) number seat
+-- there is a seat in each slot exactly where every seat was folded in
+all_there : (seat_slots : List (Option SeatWithRoom)) → list_all is_some seat_slots ≡ true → (number : ℕ) → number < length seat_slots → (seat : Seat) × IsFolded (seats_in seat_slots) number seat
 all_there [] full number within = absurd (omega (arith, within))
-all_there (None ∷ places) full number within = cc
-all_there (Some party ∷ places) full zero within = (party.seat, refl)
-all_there (Some party ∷ places) full (suc number) within = all_there places full number (omega (arith, within))
+all_there (None ∷ seat_slots) full number within = cc
+all_there (Some party ∷ seat_slots) full zero within = (party.seat, refl)
+all_there (Some party ∷ seat_slots) full (suc number) within = all_there seat_slots full number (omega (arith, within))
 
-none_missing : (places : List (Option SeatWithRoom)) → ((number : ℕ) → number < length places → (seat : Seat) × IsFolded (seats_in places) number seat) → list_all is_some places ≡ true
+none_missing : (seat_slots : List (Option SeatWithRoom)) → ((number : ℕ) → number < length seat_slots → (seat : Seat) × IsFolded (seats_in seat_slots) number seat) → list_all is_some seat_slots ≡ true
 none_missing [] all = refl
-none_missing (None ∷ places) all = let first = (all 0 (omega arith)).1 in absurd (nobody _ first)
+none_missing (None ∷ seat_slots) all = let first = (all 0 (omega arith)).1 in absurd (nobody _ first)
   where
     nobody : (seat : Seat) → some None ≡ some (Some seat) → ⊥
     nobody seat e = let f = some-injective _ _ e in cc f
-none_missing (Some party ∷ places) all = none_missing places (λ number within. all (suc number) (omega (arith, within)))
+none_missing (Some party ∷ seat_slots) all = none_missing seat_slots (λ number within. all (suc number) (omega (arith, within)))
 
-pub full_is_all_folded : (heap : Heap) (places : List (Option SeatWithRoom)) (known : CollectorKnown) (full : Bool) → full ≡ list_all is_some places → seats_in places ≡ known.seats → length places ≡ heap.seats → IsTrue full ↔ AllFolded heap known.seats
-full_is_all_folded heap places known full is seats long = (
-  λ yes number within. subst (λ (l : List (Option Seat)). (seat : Seat) × IsFolded l number seat) seats (all_there places (sym is ∙ yes) number (rw long within)),
-  λ all. is ∙ none_missing places (λ number within. subst (λ (l : List (Option Seat)). (seat : Seat) × IsFolded l number seat) (sym seats) (all number (rw (← long) within))),
+pub full_is_all_folded : (heap : Heap) (seat_slots : List (Option SeatWithRoom)) (known : CollectorKnown) (full : Bool) → full ≡ list_all is_some seat_slots → seats_in seat_slots ≡ known.seats → length seat_slots ≡ heap.seats → IsTrue full ↔ AllFolded heap known.seats
+full_is_all_folded heap seat_slots known full is seats long = (
+  λ yes number within. subst (λ (l : List (Option Seat)). (seat : Seat) × IsFolded l number seat) seats (all_there seat_slots (sym is ∙ yes) number (rw long within)),
+  λ all. is ∙ none_missing seat_slots (λ number within. subst (λ (l : List (Option Seat)). (seat : Seat) × IsFolded l number seat) (sym seats) (all number (rw (← long) within))),
 )
 
 pub holder_full_is_folded : (whole value : CollectorHeld) (full : Bool) → whole ≡ value → IsTrue full ↔ AllFolded whole.heap whole.known.seats → IsTrue full ↔ AllFolded value.heap value.known.seats

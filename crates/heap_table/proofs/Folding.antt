@@ -22,7 +22,7 @@ use Rattle.heap_table.specs.Views.{seat_view, collector_view}
 use Rattle.heap_table.specs.declared.view.View.{View}
 use Rattle.heap_table.specs.declared.view.View.TheVariants.{OfSeat, OfCollector, Spent}
 use Rattle.heap_table.proofs.Knowers.{IsSeats, holder_is_seats, IsCollectors, holder_is_collectors}
-use Rattle.heap_table.proofs.Places.{equal_somes_equal_values}
+use Rattle.heap_table.proofs.Positions.{equal_somes_equal_values}
 
 -- no phase before some entry of a history is above the phase that is now
 pub seats_stand_before : (history : List Entry) (now : ℕ) → now ≡ phase history → SeatsBefore now history
@@ -50,11 +50,11 @@ module _ (heap : Heap) (known : CollectorKnown) (number : ℕ) (seat : Seat) (le
     view_here : get_elem? (set first (suc number) Spent) (suc number) ≡ some Spent
     view_here = set_here first (suc number) Spent (omega (arith, seats.has_view, length-set table.views 0 folded_view))
 
-    places_are : length known.seats ≡ heap.seats
-    places_are = subst (λ (k : CollectorKnown). length k.seats ≡ heap.seats) its.known_is holds.is.places
+    seat_slots_are : length known.seats ≡ heap.seats
+    seat_slots_are = subst (λ (k : CollectorKnown). length k.seats ≡ heap.seats) its.known_is holds.is.seat_slots
 
     folded_here : IsFolded seats_now number seat
-    folded_here = set_here known.seats number (Some seat) (omega (arith, places_are, seats.within))
+    folded_here = set_here known.seats number (Some seat) (omega (arith, seat_slots_are, seats.within))
 
     stays_seat : (v : Found View) (s : ℕ) → s ≢ number → IsSeatOf heap known.seats s v (seat_at holds.state s) → IsSeatOf heap seats_now s v (seat_at holds.state s)
     stays_seat (some (OfSeat view)) s other is = is
@@ -77,7 +77,7 @@ module _ (heap : Heap) (known : CollectorKnown) (number : ℕ) (seat : Seat) (le
         collector_is = holds.is.collector_is ∙ ap (λ (k : CollectorKnown). k.collector) its.known_is;
         counted = length-set first (suc number) Spent ∙ length-set table.views 0 folded_view ∙ holds.is.counted ∙ ap (λ (k : CollectorKnown). suc k.handed) its.known_is;
         few = subst (λ (k : CollectorKnown). k.handed ≤ heap.seats) its.known_is holds.is.few;
-        places = length-set known.seats number (Some seat) ∙ places_are;
+        seat_slots = length-set known.seats number (Some seat) ∙ seat_slots_are;
         seats_are = λ s within. elim (eqb_tells s number) as (λ _. IsSeatOf heap seats_now s (get_elem? (set first (suc number) Spent) (suc s)) (seat_at holds.state s)) [
           | inl here ↦ subst (λ (i : ℕ). IsSeatOf heap seats_now i (get_elem? (set first (suc number) Spent) (suc i)) (seat_at holds.state i)) (sym here.1)
               (subst (λ (v : Found View). IsSeatOf heap seats_now number v (seat_at holds.state number)) (sym view_here) (folded_here ∙ ap (λ (x : Seat). some (Some x)) (sym seats.seat_is)))

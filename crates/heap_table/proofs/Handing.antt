@@ -17,7 +17,7 @@ use Rattle.heap_table.specs.Views.{collector_view}
 use Rattle.heap_table.specs.declared.view.View.{View}
 use Rattle.heap_table.specs.declared.view.View.TheVariants.{Spent}
 use Rattle.heap_table.proofs.Knowers.{IsCollectors, holder_is_collectors}
-use Rattle.heap_table.proofs.Places.{place_within_list, get_stays_by_append, get_past_end_is_none}
+use Rattle.heap_table.proofs.Positions.{position_within_list, get_stays_by_append, get_past_end_is_none}
 
 module _ (heap : Heap) (known : CollectorKnown) (few : known.handed < heap.seats) (open_ : known.closed ≡ []) where
   module _ (table : Table (Unit {0}) View) (holds : Holds heap table) (its : IsCollectors heap table 0 known holds) where
@@ -54,7 +54,7 @@ module _ (heap : Heap) (known : CollectorKnown) (few : known.handed < heap.seats
         collector_is = holds.is.collector_is ∙ ap (λ (k : CollectorKnown). k.collector) its.known_is;
         counted = omega (arith, length-append first (handed_view heap (collector_view known) ∷ []), long);
         few = few;
-        places = subst (λ (k : CollectorKnown). length k.seats ≡ heap.seats) its.known_is holds.is.places;
+        seat_slots = subst (λ (k : CollectorKnown). length k.seats ≡ heap.seats) its.known_is holds.is.seat_slots;
         seats_are = λ s within. elim (leb_tells (suc s) known.handed) as (λ _. IsSeatOf heap known.seats s (get_elem? views (suc s)) (seat_at holds.state s)) [
           | inl before ↦ subst (λ (v : Found View). IsSeatOf heap known.seats s v (seat_at holds.state s)) (sym (view_before s before.1)) (seat_was s within)
           | inr past ↦ elim (eqb_tells s known.handed) as (λ _. IsSeatOf heap known.seats s (get_elem? views (suc s)) (seat_at holds.state s)) [
@@ -70,7 +70,7 @@ module _ (heap : Heap) (known : CollectorKnown) (few : known.handed < heap.seats
         ];
         spent = λ s seat folded.
             let was = holds.is.spent s seat (subst (λ (k : CollectorKnown). IsFolded k.seats s seat) (sym its.known_is) folded) in
-            let there = place_within_list table.views (suc s) Spent was in
+            let there = position_within_list table.views (suc s) Spent was in
             view_before s (omega (arith, there, counted)) ∙ was;
         gone = λ s seat folded. holds.is.gone s seat (subst (λ (k : CollectorKnown). IsFolded k.seats s seat) (sym its.known_is) folded);
         closed_are = rw open_ refl;

@@ -31,7 +31,7 @@ use Rattle.heap_table.specs.Views.{collector_view, known_by}
 use Rattle.heap_table.specs.declared.view.View.{View}
 use Rattle.heap_table.proofs.ClosingLoads.{reading_is_allowed}
 
--- a list that has f of each number at its place is the row of these
+-- a list that has f of each number at its position is the row of these
 row_of : {A B : Type 0} (g : A → B) (f : ℕ → B) (l : List A) (a n : ℕ) → length l ≡ n → ((i : ℕ) → i < n → (x : A) × (get_elem? l i ≡ some x) × (g x ≡ f (a + i))) → map g l ≡ map f (range_with_len a n)
 row_of g f [] a zero long each = refl
 row_of g f [] a (suc n) long each = absurd (omega (arith, long))
@@ -45,14 +45,14 @@ row_of {A} {B} g f (x ∷ l) a (suc n) long each =
 -- what is whole has one history
 pub one_history : (heap : Heap) (known : CollectorKnown) → length known.seats ≡ heap.seats → IsWhole heap known
     → HasOneHistory (record { heap = heap; words = known.closed; logs = logs_known known; folded = known.folded })
-one_history heap known places whole =
+one_history heap known seat_slots whole =
     let rule = whole.stands.rule in
     record {
       history = whole.book.history;
       legal = rule.heap_stands.legal;
       logs_are =
           ap (λ (l : List (List Entry)). l ++ known.collector.log ∷ [])
-          (row_of (λ (place : Option Seat). option_map_or (λ (seat : Seat). seat.mine) place []) (λ (number : ℕ). filter (is_of number) whole.book.history) known.seats 0 heap.seats places
+          (row_of (λ (slot : Option Seat). option_map_or (λ (seat : Seat). seat.mine) slot []) (λ (number : ℕ). filter (is_of number) whole.book.history) known.seats 0 heap.seats seat_slots
           (λ number within. (Some (seat_at whole.state number), whole.seats_are number within, own number within)))
           ∙ ap (λ (l : List Entry). map (λ (number : ℕ). filter (is_of number) whole.book.history) (range_with_len 0 heap.seats) ++ l ∷ [])
           (ap (λ (c : Collector). c.log) (sym whole.collector_is) ∙ rule.collector_stands.log);
@@ -71,11 +71,11 @@ one_history heap known places whole =
         idle_list_is_all_told (graph_of heap whole.book.history) whole.book.history whole.book.made whole.book.owner whole.book.fragments number (seat_at whole.state number) idle (rule.seats_stand number within).told.list
         ∙ ap (λ (n : ℕ). filter (is_of n) whole.book.history) (omega arith)
 
--- the logs in the places are those that are known
-pub logs_placed : (places : List (Option SeatWithRoom)) → logs_in places ≡ map (λ place. option_map_or (λ (seat : Seat). seat.mine) place []) (seats_in places)
-logs_placed [] = refl
-logs_placed (None ∷ places) = ap (λ (l : List (List Entry)). [] ∷ l) (logs_placed places)
-logs_placed (Some party ∷ places) = ap (λ (l : List (List Entry)). party.seat.mine ∷ l) (logs_placed places)
+-- the logs in the slots are those that are known
+pub logs_in_slots : (seat_slots : List (Option SeatWithRoom)) → logs_in seat_slots ≡ map (λ slot. option_map_or (λ (seat : Seat). seat.mine) slot []) (seats_in seat_slots)
+logs_in_slots [] = refl
+logs_in_slots (None ∷ seat_slots) = ap (λ (l : List (List Entry)). [] ∷ l) (logs_in_slots seat_slots)
+logs_in_slots (Some party ∷ seat_slots) = ap (λ (l : List (List Entry)). party.seat.mine ∷ l) (logs_in_slots seat_slots)
 
 -- what is told of the next word that closing reads
 abbrev pub ReadTells : Heap → Me (Unit {0}) View → ℕ → Me (Unit {0}) View → Type 0
@@ -108,23 +108,23 @@ pub record IsReading (shared : TableId) (key : Heap) (mine : TableId) (me : Me (
   pub known_is : known_by me.0 ≡ record start { closed = words }
   pub ends : EndsWhole heap (known_by me.0)
 
--- while logs are moved: those moved so far stand behind those before, and the others are still in their places
-pub record IsMoving (before : List (List Entry)) (places : List (Option SeatWithRoom)) (logs : List (List Entry)) (rest : List (Option SeatWithRoom)) : Type 0 where
-  pub together : logs ++ logs_in rest ≡ before ++ logs_in places
+-- while logs are moved: those moved so far stand behind those before, and the others are still in their slots
+pub record IsMoving (before : List (List Entry)) (seat_slots : List (Option SeatWithRoom)) (logs : List (List Entry)) (rest : List (Option SeatWithRoom)) : Type 0 where
+  pub together : logs ++ logs_in rest ≡ before ++ logs_in seat_slots
 
 -- so all logs stand behind one another
-pub closed_logs_are_known : (places : List (Option SeatWithRoom)) (known : CollectorKnown) (collector : Collector) (before moved all : List (List Entry)) (log : List Entry) → seats_in places ≡ known.seats → known.collector ≡ collector
-    → log ≡ collector.log → before ≡ [] → moved ≡ before ++ logs_in places → all ≡ moved ++ log ∷ [] → all ≡ logs_known known
-closed_logs_are_known places known collector before moved all log seats its its_log none_ moved_are all_are =
+pub closed_logs_are_known : (seat_slots : List (Option SeatWithRoom)) (known : CollectorKnown) (collector : Collector) (before moved all : List (List Entry)) (log : List Entry) → seats_in seat_slots ≡ known.seats → known.collector ≡ collector
+    → log ≡ collector.log → before ≡ [] → moved ≡ before ++ logs_in seat_slots → all ≡ moved ++ log ∷ [] → all ≡ logs_known known
+closed_logs_are_known seat_slots known collector before moved all log seats its its_log none_ moved_are all_are =
     all_are
-    ∙ ap (λ (l : List (List Entry)). l ++ log ∷ []) (moved_are ∙ ap (λ (l : List (List Entry)). l ++ logs_in places) none_ ∙ logs_placed places ∙ ap (map (λ place. option_map_or (λ (seat : Seat). seat.mine) place [])) seats)
-    ∙ ap (λ (l : List Entry). map (λ place. option_map_or (λ (seat : Seat). seat.mine) place []) known.seats ++ l ∷ []) (its_log ∙ ap (λ (c : Collector). c.log) (sym its))
+    ∙ ap (λ (l : List (List Entry)). l ++ log ∷ []) (moved_are ∙ ap (λ (l : List (List Entry)). l ++ logs_in seat_slots) none_ ∙ logs_in_slots seat_slots ∙ ap (map (λ slot. option_map_or (λ (seat : Seat). seat.mine) slot [])) seats)
+    ∙ ap (λ (l : List Entry). map (λ slot. option_map_or (λ (seat : Seat). seat.mine) slot []) known.seats ++ l ∷ []) (its_log ∙ ap (λ (c : Collector). c.log) (sym its))
 
 -- and one history has them
-pub closed_has_one_history : (heap : Heap) (known read : CollectorKnown) (places : List (Option SeatWithRoom)) (words : List ℕ) (logs : List (List Entry)) (folded : ℕ) → read ≡ record known { closed = words } → seats_in places ≡ known.seats → length places ≡ heap.seats
+pub closed_has_one_history : (heap : Heap) (known read : CollectorKnown) (seat_slots : List (Option SeatWithRoom)) (words : List ℕ) (logs : List (List Entry)) (folded : ℕ) → read ≡ record known { closed = words } → seats_in seat_slots ≡ known.seats → length seat_slots ≡ heap.seats
     → EndsWhole heap read → length words ≡ table_length heap → logs ≡ logs_known known → known.folded ≡ folded → HasOneHistory (record { heap = heap; words = words; logs = logs; folded = folded })
-closed_has_one_history heap known read places words logs folded read_is seats places_are ends long logs_are folded_is =
+closed_has_one_history heap known read seat_slots words logs folded read_is seats seat_slots_are ends long logs_are folded_is =
     let whole : IsWhole heap (record known { closed = words }) = subst (IsWhole heap) read_is (ends (ap (λ (k : CollectorKnown). length k.closed) read_is ∙ long)) in
-    let one = one_history heap (record known { closed = words }) (ap length (sym seats) ∙ length-map places (λ place. option_map (λ (party : SeatWithRoom). party.seat) place) ∙ places_are) whole in
+    let one = one_history heap (record known { closed = words }) (ap length (sym seats) ∙ length-map seat_slots (λ slot. option_map (λ (party : SeatWithRoom). party.seat) slot) ∙ seat_slots_are) whole in
     subst (λ (n : ℕ). HasOneHistory (record { heap = heap; words = words; logs = logs; folded = n })) folded_is
     (subst (λ (l : List (List Entry)). HasOneHistory (record { heap = heap; words = words; logs = l; folded = known.folded })) (sym logs_are) one)

@@ -11,7 +11,7 @@ use Rattle.heap_table.specs.Known.{CollectorKnown}
 use Rattle.heap_table.specs.Views.{seat_view, collector_view, known_by}
 use Rattle.heap_table.specs.declared.view.View.{View}
 use Rattle.heap_table.specs.declared.view.View.TheVariants.{Spent}
-use Rattle.heap_table.proofs.Places.{place_within_list, list_without_elements_is_empty}
+use Rattle.heap_table.proofs.Positions.{position_within_list, list_without_elements_is_empty}
 
 -- the token is that of the holder of this seat
 pub record IsSeats (heap : Heap) (table : Table (Unit {0}) View) (id number : ℕ) (old : Seat) (holds : Holds heap table) : Type 0 where
@@ -33,7 +33,7 @@ pub holder_is_seats : (heap : Heap) (table : Table (Unit {0}) View) (id number :
     → IsSeats heap table id number old holds
 holder_is_seats heap table zero number old holds at = absurd (not_collectors holds.known number old (some-injective _ _ (sym holds.is.knows ∙ at)))
 holder_is_seats heap table (suc s) number old holds at =
-    let below = place_within_list table.views (suc s) (seat_view number old) at in
+    let below = position_within_list table.views (suc s) (seat_view number old) at in
     let within : s < heap.seats = omega (arith, below, holds.is.counted, holds.is.few) in
     let seat = subst (λ (v : Found View). IsSeatOf heap holds.known.seats s v (seat_at holds.state s)) at (holds.is.seats_are s within) in
     record {
@@ -56,8 +56,8 @@ pub holder_is_collectors : (heap : Heap) (table : Table (Unit {0}) View) (id : �
 holder_is_collectors heap table zero known holds at = record {
   id_is = refl;
   known_is = ap known_by (some-injective _ _ (sym holds.is.knows ∙ at));
-  has_view = place_within_list table.views 0 (collector_view known) at;
+  has_view = position_within_list table.views 0 (collector_view known) at;
 }
 holder_is_collectors heap table (suc s) known holds at =
-    let below = place_within_list table.views (suc s) (collector_view known) at in
+    let below = position_within_list table.views (suc s) (collector_view known) at in
     absurd (subst (λ (v : Found View). IsSeatOf heap holds.known.seats s v (seat_at holds.state s)) at (holds.is.seats_are s (omega (arith, below, holds.is.counted, holds.is.few))))

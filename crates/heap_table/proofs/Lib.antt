@@ -1,4 +1,4 @@
-pub mod Places
+pub mod Positions
 pub mod Knowers
 pub mod SeatSteps
 pub mod Turns

@@ -63,11 +63,11 @@ makes_one_step old new step found due told stepped = record {
 }
 
 -- to what it has led a call on an object
-pub while_access_has_reached : (old new : SeatHeld) (found : ℕ) → IsStepped old new found → ToldAtStep old.heap old.number old.seat found → WhileAccess (HasReached new.heap new.number new.seat) new.seat.place
+pub while_access_has_reached : (old new : SeatHeld) (found : ℕ) → IsStepped old new found → ToldAtStep old.heap old.number old.seat found → WhileAccess (HasReached new.heap new.number new.seat) new.seat.point
 while_access_has_reached old new found stepped told =
-    subst (λ (h : Heap). WhileAccess (HasReached h new.number new.seat) new.seat.place) (sym stepped.heap_stays)
-    (subst (λ (n : ℕ). WhileAccess (HasReached old.heap n new.seat) new.seat.place) (sym stepped.number_stays)
-    (subst (λ (s : Seat). WhileAccess (HasReached old.heap old.number s) s.place) (sym stepped.seat_is) told.comes))
+    subst (λ (h : Heap). WhileAccess (HasReached h new.number new.seat) new.seat.point) (sym stepped.heap_stays)
+    (subst (λ (n : ℕ). WhileAccess (HasReached old.heap n new.seat) new.seat.point) (sym stepped.number_stays)
+    (subst (λ (s : Seat). WhileAccess (HasReached old.heap old.number s) s.point) (sym stepped.seat_is) told.comes))
 
 -- each of the steps is one of these and those
 pub found_in_longer_steps : (made : List Made) (m : Made) (step : Step) (word : ℕ) → FoundIn made step word → FoundIn (m ∷ made) step word
@@ -89,7 +89,7 @@ some_words heap a found =
 
 -- the move that is due
 module _ (heap : Heap) (number : ℕ) (seat : Seat) (limits : IsHeap heap) (few : number < 16) (fits : Fits heap seat) where
-  near_by : (move : Option Move) (step : Step) (found : ℕ) (next : Seat) → option_map (λ (m : Move). m.step) move ≡ Some step → IfSome move (MoveStands heap number seat seat.place)
+  near_by : (move : Option Move) (step : Step) (found : ℕ) (next : Seat) → option_map (λ (m : Move). m.step) move ≡ Some step → IfSome move (MoveStands heap number seat seat.point)
       → next ≡ seat_after_due seat move found → (steps_left heap next < steps_left heap seat) × (owes next + length next.mine ≤ owes seat + length seat.mine)
   near_by None step found next due stands same = cc
   near_by (Some m) step found next due stands same =

@@ -31,7 +31,7 @@ use Rattle.heap_table.specs.Views.{seat_view, collector_view, known_by, opening_
 use Rattle.heap_table.specs.declared.view.View.{View}
 use Rattle.heap_table.proofs.Folding.{seats_stand_before}
 use Rattle.heap_table.proofs.Handing.{handing_is_allowed}
-use Rattle.heap_table.proofs.Places.{all_empty_none_full}
+use Rattle.heap_table.proofs.Positions.{all_empty_none_full}
 use Rattle.heap_table.proofs.SeatSteps.{next_step_has_word, state_seat_is_as_told}
 use Rattle.heap_table.proofs.Turns.{next_turn_has_word}
 
@@ -58,7 +58,7 @@ module _ (heap : Heap) (words : List ℕ) (limits : IsHeap heap) (long : length 
           collector_is = refl;
           counted = refl;
           few = omega arith;
-          places = length-replicate heap.seats None;
+          seat_slots = length-replicate heap.seats None;
           seats_are = λ s within. seat_at_opening heap (opening_state heap words) s is_opening within;
           spent = λ s seat folded. absurd (all_empty_none_full heap.seats s seat folded);
           gone = λ s seat folded. absurd (all_empty_none_full heap.seats s seat folded);
@@ -80,9 +80,9 @@ module _ (heap : Heap) (words : List ℕ) (limits : IsHeap heap) (long : length 
       )
 
   -- what the collector's holder keeps then
-  pub keeps_collector_at_opening : (shared mine : TableId) (key : Heap) (me : Me (Unit {0}) View) (places : List (Option SeatWithRoom)) → mine ≡ shared → shared.words ≡ length words → shared.slots ≡ 0 → key ≡ heap
-      → me ≡ (opening_view heap, []) → places ≡ replicate heap.seats None → KeepsCollector shared key mine me heap opening_collector places 0
-  keeps_collector_at_opening shared mine key me places same words_are none_ key_is me_is places_are =
+  pub keeps_collector_at_opening : (shared mine : TableId) (key : Heap) (me : Me (Unit {0}) View) (seat_slots : List (Option SeatWithRoom)) → mine ≡ shared → shared.words ≡ length words → shared.slots ≡ 0 → key ≡ heap
+      → me ≡ (opening_view heap, []) → seat_slots ≡ replicate heap.seats None → KeepsCollector shared key mine me heap opening_collector seat_slots 0
+  keeps_collector_at_opening shared mine key me seat_slots same words_are none_ key_is me_is seat_slots_are =
       let stands = opening_stands heap (opening_state heap words) limits is_opening in
       record {
         token = record {
@@ -91,8 +91,8 @@ module _ (heap : Heap) (words : List ℕ) (limits : IsHeap heap) (long : length 
           knows = me_is ∙ ap (λ (m : Me (Unit {0}) View). (collector_view (known_by m.0), [])) (sym me_is);
         };
         collector_is = ap (λ (m : Me (Unit {0}) View). (known_by m.0).collector) me_is;
-        seats_are = ap seats_in places_are ∙ still_empty heap.seats ∙ ap (λ (m : Me (Unit {0}) View). (known_by m.0).seats) (sym me_is);
-        a_place_each = ap length places_are ∙ length-replicate heap.seats None;
+        seats_are = ap seats_in seat_slots_are ∙ still_empty heap.seats ∙ ap (λ (m : Me (Unit {0}) View). (known_by m.0).seats) (sym me_is);
+        a_slot_each = ap length seat_slots_are ∙ length-replicate heap.seats None;
         folded_is = ap (λ (m : Me (Unit {0}) View). (known_by m.0).folded) me_is;
         unread = ap (λ (m : Me (Unit {0}) View). (known_by m.0).closed) me_is;
         fits = (opening_is_machine heap (opening_state heap words) limits is_opening).collector_fit;
@@ -125,7 +125,7 @@ keeps_seat_when_handed heap key shared mine me number seat opens limits of withi
   own = (opens number within).2;
 }
 
--- what holds of the holder as contracts see it holds of its parts
+-- what holds of the holder as contracts see it holds of its fields
 pub handed_within_seats : (whole value : CollectorHeld) (number : ℕ) → whole ≡ value → number ≡ value.known.handed → number < value.heap.seats → whole.known.handed < whole.heap.seats
 handed_within_seats whole value number is next within = subst (λ (v : CollectorHeld). v.known.handed < v.heap.seats) (sym is) (rw (← next) within)
 

@@ -8,13 +8,13 @@ use Rattle.core_machine.specs.collector.Collector.{Collector, TurnMove, next_tur
 use Rattle.core_machine.specs.declared.collector.stage.Copying.TheVariants as copying
 use Rattle.core_machine.specs.declared.collector.stage.Stage.{Stage}
 use Rattle.core_machine.specs.declared.collector.stage.Stage.TheVariants as stages
-use Rattle.core_machine.specs.declared.place.Place.{Place}
-use Rattle.core_machine.specs.declared.place.Place.TheVariants as places
-use Rattle.core_machine.specs.declared.place.Making.TheVariants.{Granting, Withdrawing, Gathering, GivingBack, Refusing, Placing, Listing, Storing, Bearing}
-use Rattle.core_machine.specs.declared.place.Access.TheVariants.{LoadingMeta, Walking, LoadingSpot, Indexing, Getting, Naming, LoadingOld, ShadingOld, ShadingNew, Swapping}
-use Rattle.core_machine.specs.declared.place.Polling.TheVariants as polling
-use Rattle.core_machine.specs.declared.place.Collecting.TheVariants as collecting
-use Rattle.core_machine.specs.declared.place.Leaving.TheVariants.{Emptying, Parting}
+use Rattle.core_machine.specs.declared.point.Point.{Point}
+use Rattle.core_machine.specs.declared.point.Point.TheVariants as points
+use Rattle.core_machine.specs.declared.point.Making.TheVariants.{Granting, Withdrawing, Gathering, GivingBack, Refusing, Placing, Listing, Storing, Bearing}
+use Rattle.core_machine.specs.declared.point.Access.TheVariants.{LoadingMeta, Walking, LoadingSpot, Indexing, Getting, Naming, LoadingOld, ShadingOld, ShadingNew, Swapping}
+use Rattle.core_machine.specs.declared.point.Polling.TheVariants as polling
+use Rattle.core_machine.specs.declared.point.Collecting.TheVariants as collecting
+use Rattle.core_machine.specs.declared.point.Leaving.TheVariants.{Emptying, Parting}
 use Rattle.core_machine.specs.declared.step.Step.{Step}
 use Rattle.core_machine.specs.declared.step.Step.TheVariants.{Making, PollLoad, Access, Spine, Handshake, Copying as Copies, Turning}
 use Rattle.core_machine.specs.declared.step.MakingStep.TheVariants.{Claim, GiveBack, NewbornStore, Birth, LastBirth}
@@ -91,37 +91,37 @@ refusing number seat n m commands.Poll is = λ e. let loads = sym (ap (λ (c : C
 refusing number seat n m commands.Collect is = λ e. let loads = sym (ap (λ (c : Command). is_quiet (refusal_step c (spine_need seat))) is) ∙ e in cc
 refusing number seat n m commands.Leave is = λ e. let loads = sym (ap (λ (c : Command). is_quiet (refusal_step c (spine_need seat))) is) ∙ e in cc
 
-same_at : (heap : Heap) (number : ℕ) (seat : Seat) (n m : ℕ) (place : Place) → IfSome (move_at heap number seat place) (IsSame n m)
-same_at heap number seat n m places.Idle = tt
-same_at heap number seat n m (places.Making Granting) = λ e. cc
-same_at heap number seat n m (places.Making Withdrawing) = λ e. refl
-same_at heap number seat n m (places.Making Gathering) = λ e. cc
-same_at heap number seat n m (places.Making GivingBack) = λ e. refl
-same_at heap number seat n m (places.Making Refusing) = refusing number seat n m seat.command refl
-same_at heap number seat n m (places.Making Placing) = λ e. cc
-same_at heap number seat n m (places.Making Listing) = λ e. refl
-same_at heap number seat n m (places.Making Storing) = λ e. refl
-same_at heap number seat n m (places.Making Bearing) = bearing number seat n m (is_last_birth seat)
-same_at heap number seat n m places.Local = λ e. cc
-same_at heap number seat n m (places.Access LoadingMeta) = λ e. cc
-same_at heap number seat n m (places.Access Walking) = λ e. cc
-same_at heap number seat n m (places.Access LoadingSpot) = λ e. cc
-same_at heap number seat n m (places.Access Indexing) = λ e. cc
-same_at heap number seat n m (places.Access Getting) = λ e. cc
-same_at heap number seat n m (places.Access Naming) = λ e. cc
-same_at heap number seat n m (places.Access LoadingOld) = λ e. cc
-same_at heap number seat n m (places.Access ShadingOld) = λ e. refl
-same_at heap number seat n m (places.Access ShadingNew) = λ e. refl
-same_at heap number seat n m (places.Access Swapping) = λ e. cc
-same_at heap number seat n m (places.Polling polling.Asking) = λ e. cc
-same_at heap number seat n m (places.Polling polling.Shading) = λ e. refl
-same_at heap number seat n m (places.Polling polling.Answering) = λ e. refl
-same_at heap number seat n m (places.Collecting collecting.Looking) = λ e. cc
-same_at heap number seat n m (places.Collecting (collecting.Asking other)) = λ e. cc
-same_at heap number seat n m (places.Collecting (collecting.Comparing other phase)) = λ e. cc
-same_at heap number seat n m (places.Collecting (collecting.Noting reply)) = λ e. cc
-same_at heap number seat n m (places.Leaving Emptying) = λ e. refl
-same_at heap number seat n m (places.Leaving Parting) = λ e. refl
+same_at : (heap : Heap) (number : ℕ) (seat : Seat) (n m : ℕ) (point : Point) → IfSome (move_at heap number seat point) (IsSame n m)
+same_at heap number seat n m points.Idle = tt
+same_at heap number seat n m (points.Making Granting) = λ e. cc
+same_at heap number seat n m (points.Making Withdrawing) = λ e. refl
+same_at heap number seat n m (points.Making Gathering) = λ e. cc
+same_at heap number seat n m (points.Making GivingBack) = λ e. refl
+same_at heap number seat n m (points.Making Refusing) = refusing number seat n m seat.command refl
+same_at heap number seat n m (points.Making Placing) = λ e. cc
+same_at heap number seat n m (points.Making Listing) = λ e. refl
+same_at heap number seat n m (points.Making Storing) = λ e. refl
+same_at heap number seat n m (points.Making Bearing) = bearing number seat n m (is_last_birth seat)
+same_at heap number seat n m points.Local = λ e. cc
+same_at heap number seat n m (points.Access LoadingMeta) = λ e. cc
+same_at heap number seat n m (points.Access Walking) = λ e. cc
+same_at heap number seat n m (points.Access LoadingSpot) = λ e. cc
+same_at heap number seat n m (points.Access Indexing) = λ e. cc
+same_at heap number seat n m (points.Access Getting) = λ e. cc
+same_at heap number seat n m (points.Access Naming) = λ e. cc
+same_at heap number seat n m (points.Access LoadingOld) = λ e. cc
+same_at heap number seat n m (points.Access ShadingOld) = λ e. refl
+same_at heap number seat n m (points.Access ShadingNew) = λ e. refl
+same_at heap number seat n m (points.Access Swapping) = λ e. cc
+same_at heap number seat n m (points.Polling polling.Asking) = λ e. cc
+same_at heap number seat n m (points.Polling polling.Shading) = λ e. refl
+same_at heap number seat n m (points.Polling polling.Answering) = λ e. refl
+same_at heap number seat n m (points.Collecting collecting.Looking) = λ e. cc
+same_at heap number seat n m (points.Collecting (collecting.Asking other)) = λ e. cc
+same_at heap number seat n m (points.Collecting (collecting.Comparing other phase)) = λ e. cc
+same_at heap number seat n m (points.Collecting (collecting.Noting reply)) = λ e. cc
+same_at heap number seat n m (points.Leaving Emptying) = λ e. refl
+same_at heap number seat n m (points.Leaving Parting) = λ e. refl
 
 same_due : (seat : Seat) (move : Option Move) (step : Step) (n m : ℕ) → option_map (λ (a : Move). a.step) move ≡ Some step → is_quiet step ≡ true → IfSome move (IsSame n m)
     → seat_after_due seat move n ≡ seat_after_due seat move m
@@ -131,7 +131,7 @@ same_due seat (Some move) step n m due quiet same = let is : move.step ≡ step 
 -- after a quiet step the seat is the same whatever word was found
 pub quiet_seat_ignores_word : (heap : Heap) (number : ℕ) (seat : Seat) (step : Step) (n m : ℕ) → due_step heap number seat ≡ Some step → is_quiet step ≡ true
     → next_seat heap number seat n ≡ next_seat heap number seat m
-quiet_seat_ignores_word heap number seat step n m due quiet = same_due seat (next_move heap number seat) step n m due quiet (same_at heap number seat n m seat.place)
+quiet_seat_ignores_word heap number seat step n m due quiet = same_due seat (next_move heap number seat) step n m due quiet (same_at heap number seat n m seat.point)
 
 -- where the turn's step is quiet, the collector after it is the same
 abbrev TurnsSame : ℕ → ℕ → TurnMove → Type 0
@@ -156,7 +156,7 @@ turned_same heap collector n m (stages.Copying (copying.Loading copy)) = λ e. c
 turned_same heap collector n m (stages.Copying (copying.Storing copy stored)) = λ e. refl
 turned_same heap collector n m (stages.Copying (copying.Swinging copy)) = λ e. refl
 turned_same heap collector n m (stages.Sweeping group) = λ e. cc
-turned_same heap collector n m (stages.Examining group dead place words) = λ e. cc
+turned_same heap collector n m (stages.Examining group dead position words) = λ e. cc
 turned_same heap collector n m (stages.Freeing group dead words) = λ e. refl
 turned_same heap collector n m (stages.Returning group words) = λ e. refl
 turned_same heap collector n m (stages.Clearing group kept) = λ e. cc

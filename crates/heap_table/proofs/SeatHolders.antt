@@ -8,8 +8,8 @@ use Rattle.heap_model.specs.declared.calls.collect.Inner.TheVariants.{Look, Answ
 use Rattle.heap_model.specs.declared.command.Command.{Command}
 use Rattle.heap_model.specs.declared.command.Command.TheVariants as commands
 use Rattle.heap_model.specs.declared.heap.Heap.{Heap}
-use Rattle.core_machine.specs.declared.place.Place.TheVariants.{Idle, Making}
-use Rattle.core_machine.specs.declared.place.Making.TheVariants.{Gathering}
+use Rattle.core_machine.specs.declared.point.Point.TheVariants.{Idle, Making}
+use Rattle.core_machine.specs.declared.point.Making.TheVariants.{Gathering}
 use Rattle.core_machine.specs.declared.seat.register.Register.{Register}
 use Rattle.core_machine.specs.declared.seat.register.Register.TheVariants.{Nil, Number, Object}
 use Rattle.core_machine.specs.declared.step.Step.{Step}
@@ -46,18 +46,18 @@ use Rattle.heap_table.proofs.SeatSteps.{rule_allows_seat_step}
 use Rattle.heap_table.proofs.Stored.{tells_stored_of_store}
 
 -- a call that was begun is in flight
-opened_busy : (seat : Seat) (register : Register) → (access_start seat register).place ≡ Idle → ⊥
+opened_busy : (seat : Seat) (register : Register) → (access_start seat register).point ≡ Idle → ⊥
 opened_busy seat Nil e = cc
 opened_busy seat (Number n) e = cc
 opened_busy seat (Object head id) e = cc
 
 gathered_busy : (heap : Heap) (seat : Seat) (enough more : Bool)
-    → (cond enough (after_gather heap seat) (cond more (record seat { place = Making Gathering }) (after_shortage seat))).place ≡ Idle → ⊥
+    → (cond enough (after_gather heap seat) (cond more (record seat { point = Making Gathering }) (after_shortage seat))).point ≡ Idle → ⊥
 gathered_busy heap seat true more e = cc
 gathered_busy heap seat false true e = cc
 gathered_busy heap seat false false e = cc
 
-begun_busy : (heap : Heap) (seat : Seat) (command : Command) → IsServed command → (after_begin heap seat command).place ≡ Idle → ⊥
+begun_busy : (heap : Heap) (seat : Seat) (command : Command) → IsServed command → (after_begin heap seat command).point ≡ Idle → ⊥
 begun_busy heap seat (commands.New d fields) served e =
     let s : Seat = record seat { command = commands.New d fields } in
     gathered_busy heap s (nat_le (need s) (length (fragments_gathered s))) (nat_lt s.tried heap.groups) e
@@ -73,21 +73,21 @@ begun_busy heap seat commands.Poll served e = cc
 begun_busy heap seat commands.Collect served e = served
 begun_busy heap seat commands.Leave served e = cc
 
-inner_busy : (seat : Seat) (inner : Inner) → (after_inner_begin seat inner).place ≡ Idle → ⊥
+inner_busy : (seat : Seat) (inner : Inner) → (after_inner_begin seat inner).point ≡ Idle → ⊥
 inner_busy seat Look e = cc
 inner_busy seat Answer e = cc
 inner_busy seat (Behind other) e = cc
 inner_busy seat (Note reply) e = cc
 
 -- so a seat without one is that of the view
-pub idle_same : (heap : Heap) (number : ℕ) (old seat : Seat) → MayHaveBegun heap number old seat → seat.place ≡ Idle → seat ≡ old
+pub idle_same : (heap : Heap) (number : ℕ) (old seat : Seat) → MayHaveBegun heap number old seat → seat.point ≡ Idle → seat ≡ old
 idle_same heap number old seat (Same e) idle = e
-idle_same heap number old seat (Begun command may e) idle = absurd (begun_busy heap old command may.served (ap (λ (s : Seat). s.place) (sym e) ∙ idle))
-idle_same heap number old seat (BegunInner inner may e) idle = absurd (inner_busy old inner (ap (λ (s : Seat). s.place) (sym e) ∙ idle))
+idle_same heap number old seat (Begun command may e) idle = absurd (begun_busy heap old command may.served (ap (λ (s : Seat). s.point) (sym e) ∙ idle))
+idle_same heap number old seat (BegunInner inner may e) idle = absurd (inner_busy old inner (ap (λ (s : Seat). s.point) (sym e) ∙ idle))
 
 -- the word that a seat's step stores leads within the heap where the word there before did
 stored_leads : (heap : Heap) (number : ℕ) (seat : Seat) (move : Option Move) (step : Step) (word found : ℕ) → option_map (λ (m : Move). m.step) move ≡ Some step → operation_of step ≡ Store word
-    → IfSome move (MoveStands heap number seat seat.place) → IfSome move (λ (m : Move). FoundPointsWithin heap (address_of m.step) found) → IfSome move (λ (m : Move). FoundPointsWithin heap (address_of m.step) word)
+    → IfSome move (MoveStands heap number seat seat.point) → IfSome move (λ (m : Move). FoundPointsWithin heap (address_of m.step) found) → IfSome move (λ (m : Move). FoundPointsWithin heap (address_of m.step) word)
 stored_leads heap number seat None step word found due stores stands leads = tt
 stored_leads heap number seat (Some move) step word found due stores stands leads =
     let is : move.step ≡ step = cc in
@@ -127,7 +127,7 @@ module _ (shared : TableId) (key : Heap) (mine : TableId) (me : Me (Unit {0}) Vi
             has_word = subst (NextHasWord heap number) same tells.1.has_word;
             tells = store_tells_found heap number seat word word step is due;
             own = subst (IsAsTold heap number) same tells.1.own;
-            comes = subst (λ (s : Seat). WhileAccess (HasReached heap number s) s.place) same tells.1.comes;
+            comes = subst (λ (s : Seat). WhileAccess (HasReached heap number s) s.point) same tells.1.comes;
           },
         ))
       where
@@ -135,7 +135,7 @@ module _ (shared : TableId) (key : Heap) (mine : TableId) (me : Me (Unit {0}) Vi
         few = omega (arith, keeps.within, keeps.limits.seats_fit)
 
   -- without a call in flight the seat has what its own list tells
-  pub idle_is_as_told : seat.place ≡ Idle → IsAsTold heap number seat
+  pub idle_is_as_told : seat.point ≡ Idle → IsAsTold heap number seat
   idle_is_as_told idle = subst (IsAsTold heap number) (sym (idle_same heap number keeps.old seat keeps.begun idle)) keeps.own
 
   -- what it keeps after the step
@@ -180,7 +180,7 @@ module _ (shared : TableId) (key : Heap) (mine : TableId) (me : Me (Unit {0}) Vi
       keeps_for next (BegunInner inner (subst (λ (s : Seat). MayBeginInner heap number s inner) same may) (is ∙ ap (λ (s : Seat). after_inner_begin s inner) same))
       (subst (Fits heap) (sym is) (inner_stands heap number seat inner keeps.fits may).fits)
 
--- what holds of the holder as contracts see it holds of its parts
+-- what holds of the holder as contracts see it holds of its fields
 pub due_step_is_step : (whole value : SeatHeld) (step : Step) → whole ≡ value → due_step value.heap value.number value.seat ≡ Some step → due_step whole.heap whole.number whole.seat ≡ Some step
 due_step_is_step whole value step is due = subst (λ (h : SeatHeld). due_step h.heap h.number h.seat ≡ Some step) (sym is) due
 
@@ -190,8 +190,8 @@ holder_may_begin whole value command is may = subst (λ (h : SeatHeld). MayBegin
 pub holder_may_begin_inner : (whole value : SeatHeld) (inner : Inner) → whole ≡ value → MayBeginInner value.heap value.number value.seat inner → MayBeginInner whole.heap whole.number whole.seat inner
 holder_may_begin_inner whole value inner is may = subst (λ (h : SeatHeld). MayBeginInner h.heap h.number h.seat inner) (sym is) may
 
-pub holder_is_as_told : (whole value : SeatHeld) → whole ≡ value → (whole.seat.place ≡ Idle → IsAsTold whole.heap whole.number whole.seat) → value.seat.place ≡ Idle → IsAsTold value.heap value.number value.seat
-holder_is_as_told whole value is told = subst (λ (h : SeatHeld). h.seat.place ≡ Idle → IsAsTold h.heap h.number h.seat) is told
+pub holder_is_as_told : (whole value : SeatHeld) → whole ≡ value → (whole.seat.point ≡ Idle → IsAsTold whole.heap whole.number whole.seat) → value.seat.point ≡ Idle → IsAsTold value.heap value.number value.seat
+holder_is_as_told whole value is told = subst (λ (h : SeatHeld). h.seat.point ≡ Idle → IsAsTold h.heap h.number h.seat) is told
 
 -- after a quiet step no found word matters
 pub quiet_step_is_stepped : (old new : SeatHeld) (step : Step) (found : ℕ) → due_step old.heap old.number old.seat ≡ Some step → is_quiet step ≡ true → IsStepped old new found → IsStepped old new 0

@@ -8,8 +8,8 @@ use lib.ListN.{get_elem?}
 use Rattle.atomic_table.specs.Table.{State as Table, Allows, keeps}
 use Rattle.atomic_table.proofs.Lists.{set_here, set_else}
 use Rattle.heap_model.specs.declared.heap.Heap.{Heap}
-use Rattle.core_machine.specs.declared.place.Place.{Place}
-use Rattle.core_machine.specs.declared.place.Place.TheVariants as places
+use Rattle.core_machine.specs.declared.point.Point.{Point}
+use Rattle.core_machine.specs.declared.point.Point.TheVariants as points
 use Rattle.core_machine.specs.declared.step.Step.{Step}
 use Rattle.core_machine.specs.declared.table.address.Address.{Address}
 use Rattle.core_machine.specs.table.Layout.{index_of, at, put}
@@ -43,7 +43,7 @@ use Rattle.heap_table.specs.declared.view.View.{View}
 use Rattle.heap_table.specs.declared.view.View.TheVariants.{Spent}
 use Rattle.heap_table.proofs.Knowers.{IsSeats, holder_is_seats, holder_is_not_spent}
 
--- the state with this seat in its place
+-- the state with this seat in its position
 abbrev pub with_seat : State → ℕ → Seat → State
 with_seat state number seat = record state { seats = set state.seats number seat }
 
@@ -85,15 +85,15 @@ unfolding EachSeatIsAsTold
 state_seat_is_as_told heap state book number rule within = each_seat_is_as_told heap state book number rule within
 
 -- and a call on an object has reached its own
-reached_so : (heap : Heap) (state : State) (book : Book) (number : ℕ) (seat : Seat) (place : Place) → Stands heap state book → seat_at state number ≡ seat
-    → WhileAccess (ReachesOwn heap book number seat) place → WhileAccess (HasReached heap number seat) place
-reached_so heap state book number seat (places.Access place) stands here reaches = record { state = state; book = book; stands = stands; here = here; reaches = reaches }
-reached_so heap state book number seat place stands here reaches = tt
+reached_so : (heap : Heap) (state : State) (book : Book) (number : ℕ) (seat : Seat) (point : Point) → Stands heap state book → seat_at state number ≡ seat
+    → WhileAccess (ReachesOwn heap book number seat) point → WhileAccess (HasReached heap number seat) point
+reached_so heap state book number seat (points.Access point) stands here reaches = record { state = state; book = book; stands = stands; here = here; reaches = reaches }
+reached_so heap state book number seat point stands here reaches = tt
 
-seat_has_reached : (heap : Heap) (state : State) (book : Book) (number : ℕ) → Stands heap state book → number < heap.seats → WhileAccess (HasReached heap number (seat_at state number)) (seat_at state number).place
+seat_has_reached : (heap : Heap) (state : State) (book : Book) (number : ℕ) → Stands heap state book → number < heap.seats → WhileAccess (HasReached heap number (seat_at state number)) (seat_at state number).point
 unfolding EachReachesOwn
 seat_has_reached heap state book number stands within =
-    reached_so heap state book number (seat_at state number) (seat_at state number).place stands refl (each_reaches_own heap state book number stands.rule within)
+    reached_so heap state book number (seat_at state number) (seat_at state number).point stands refl (each_reaches_own heap state book number stands.rule within)
 
 -- a word is read at its place
 pub at_is_read_at_index : (heap : Heap) (words : List ℕ) (a : Address) → at heap words a ≡ get_or words (index_of heap a) 0
@@ -126,7 +126,7 @@ state_stepped heap table number old holds its now index word seat words seats co
   collector_is = collector ∙ holds.is.collector_is;
   counted = length-set table.views (suc number) (seat_view number seat) ∙ holds.is.counted;
   few = holds.is.few;
-  places = holds.is.places;
+  seat_slots = holds.is.seat_slots;
   seats_are = λ s below. elim (eqb_tells s number) as (λ _. IsSeatOf heap holds.known.seats s (get_elem? (set table.views (suc number) (seat_view number seat)) (suc s)) (seat_at now s)) [
     | inl here ↦ seat_here s here.1
     | inr other ↦
@@ -228,7 +228,7 @@ module _ (heap : Heap) (number : ℕ) (old seat : Seat) (step : Step) (ahead : M
           tells = subst (TellsFound heap number seat) is (subst (λ (s : Seat). TellsFound heap number s (found_by heap (with_seat holds.state number seat) step)) here
               (found_at_step heap (with_seat holds.state number seat) begun.0 number begun.1 its.within step due_here));
           own = subst (IsAsTold heap number) seat_now (state_seat_is_as_told heap now kept.book number stands.rule its.within);
-          comes = subst (λ (s : Seat). WhileAccess (HasReached heap number s) s.place) seat_now (seat_has_reached heap now kept.book number stands its.within);
+          comes = subst (λ (s : Seat). WhileAccess (HasReached heap number s) s.point) seat_now (seat_has_reached heap now kept.book number stands its.within);
         }
 
   pub rule_allows_seat_step : (id : ℕ) → Allows (Holds heap) 0 id (seat_view number old, []) (index_of heap (address_of step)) (word_after step)

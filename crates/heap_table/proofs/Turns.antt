@@ -127,7 +127,7 @@ module _ (heap : Heap) (known : CollectorKnown) (step : Step) (due : (next_turn 
         collector_is = refl;
         counted = length-set table.views 0 (collector_view (next_known heap known found)) ∙ holds.is.counted ∙ ap (λ (k : CollectorKnown). suc k.handed) its.known_is;
         few = subst (λ (k : CollectorKnown). k.handed ≤ heap.seats) its.known_is holds.is.few;
-        places = subst (λ (k : CollectorKnown). length k.seats ≡ heap.seats) its.known_is holds.is.places;
+        seat_slots = subst (λ (k : CollectorKnown). length k.seats ≡ heap.seats) its.known_is holds.is.seat_slots;
         seats_are = λ s below. subst (λ (v : Found View). IsSeatOf heap known.seats s v (seat_at holds.state s)) (sym (views_stay s (next_known heap known found)))
             (subst (λ (k : CollectorKnown). IsSeatOf heap k.seats s (get_elem? table.views (suc s)) (seat_at holds.state s)) its.known_is (holds.is.seats_are s below));
         spent = λ s kept_seat folded. views_stay s (next_known heap known found) ∙ holds.is.spent s kept_seat (subst (λ (k : CollectorKnown). IsFolded k.seats s kept_seat) (sym its.known_is) folded);
@@ -205,7 +205,7 @@ module _ (heap : Heap) (collector : Collector) (fits : CollectorFits heap collec
   may_at stages.Flipping = tt
   may_at (stages.Copying stage) = tt
   may_at (stages.Sweeping group) = tt
-  may_at (stages.Examining group dead place words) = tt
+  may_at (stages.Examining group dead position words) = tt
   may_at (stages.Freeing group dead words) = tt
   may_at (stages.Returning group words) = tt
   may_at (stages.Clearing group kept) = tt

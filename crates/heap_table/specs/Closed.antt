@@ -35,13 +35,13 @@ pub record ClosedTable : Type 0 where
   pub logs : List (List Entry)
   pub folded : ℕ
 
--- the logs of the seats in these places; none's is empty
+-- the logs of the seats in these slots; none's is empty
 abbrev pub logs_in : List (Option SeatWithRoom) → List (List Entry)
-logs_in places = map (λ place. option_map_or (λ party. party.seat.mine) place []) places
+logs_in seat_slots = map (λ slot. option_map_or (λ party. party.seat.mine) slot []) seat_slots
 
 -- the log of each seat that was folded in, by the seats' numbers, and the collector's behind them
 abbrev pub logs_known : CollectorKnown → List (List Entry)
-logs_known known = map (λ place. option_map_or (λ seat. seat.mine) place []) known.seats ++ known.collector.log ∷ []
+logs_known known = map (λ slot. option_map_or (λ seat. seat.mine) slot []) known.seats ++ known.collector.log ∷ []
 
 -- one legal history has exactly these logs; a book with it stands for the words; in it every entry of a seat stands before each phase above `folded`
 pub record HasOneHistory (closed : ClosedTable) : Type 0 where

@@ -23,9 +23,9 @@ pub record CollectorHeld : Type 0 where
   pub turns : ℕ
   pub spare : ℕ
 
--- the seats in their places, where there are some
+-- the seats in their slots, where there are some
 abbrev pub seats_in : List (Option SeatWithRoom) → List (Option Seat)
-seats_in places = map (λ place. option_map (λ party. party.seat) place) places
+seats_in seat_slots = map (λ slot. option_map (λ party. party.seat) slot) seat_slots
 
 -- the token is of this table, and its view is the collector's
 pub record KeepsToken (shared : TableId) (key : Heap) (mine : TableId) (me : Me (Unit {0}) View) (heap : Heap) : Type 0 where
@@ -33,12 +33,12 @@ pub record KeepsToken (shared : TableId) (key : Heap) (mine : TableId) (me : Me 
   pub limits : IsHeap heap
   pub knows : me ≡ (collector_view (known_by me.0), [])
 
--- the holder has such a token, which knows its collector and the seats in their places; closing has read nothing yet
-pub record KeepsCollector (shared : TableId) (key : Heap) (mine : TableId) (me : Me (Unit {0}) View) (heap : Heap) (collector : Collector) (places : List (Option SeatWithRoom)) (folded : ℕ) : Type 0 where
+-- the holder has such a token, which knows its collector and the seats in their slots; closing has read nothing yet
+pub record KeepsCollector (shared : TableId) (key : Heap) (mine : TableId) (me : Me (Unit {0}) View) (heap : Heap) (collector : Collector) (seat_slots : List (Option SeatWithRoom)) (folded : ℕ) : Type 0 where
   pub token : KeepsToken shared key mine me heap
   pub collector_is : (known_by me.0).collector ≡ collector
-  pub seats_are : seats_in places ≡ (known_by me.0).seats
-  pub a_place_each : length places ≡ heap.seats
+  pub seats_are : seats_in seat_slots ≡ (known_by me.0).seats
+  pub a_slot_each : length seat_slots ≡ heap.seats
   pub folded_is : (known_by me.0).folded ≡ folded
   pub unread : (known_by me.0).closed ≡ []
   pub fits : CollectorFits heap collector

@@ -29,7 +29,7 @@ pub record IsStateOf (heap : Heap) (words : List ℕ) (views : List View) (state
   pub collector_is : state.collector ≡ known.collector
   pub counted : length views ≡ suc known.handed
   pub few : known.handed ≤ heap.seats
-  pub places : length known.seats ≡ heap.seats
+  pub seat_slots : length known.seats ≡ heap.seats
   pub seats_are : (number : ℕ) → number < heap.seats → IsSeatOf heap known.seats number (get_elem? views (suc number)) (seat_at state number)
   -- a seat that was folded in has no view any more
   pub spent : (number : ℕ) (seat : Seat) → IsFolded known.seats number seat → get_elem? views (suc number) ≡ some Spent

@@ -31,7 +31,7 @@ pub record ToldAtStep (heap : Heap) (number : ℕ) (seat : Seat) (found : ℕ) :
   -- after the step the seat's data are what its own list tells
   pub own : IsAsTold heap number (next_seat heap number seat found)
   -- and what a call on an object has reached then
-  pub comes : WhileAccess (HasReached heap number (next_seat heap number seat found)) (next_seat heap number seat found).place
+  pub comes : WhileAccess (HasReached heap number (next_seat heap number seat found)) (next_seat heap number seat found).point
 
 -- the collector after its due turn that found this word
 abbrev pub next_collector : Heap → Collector → ℕ → Collector

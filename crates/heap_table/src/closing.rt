@@ -59,14 +59,14 @@ fn word_count(heap: &Heap) -> usize
     19 + 65 * heap.groups as usize + 4 * heap.spine as usize
 }
 
-/// Moves the logs out of these places, for which there is room.
-fn move_logs(alloc: Global, places: Vec<Option<SeatParty>>, logs: &mut Vec<Vec<Entry>>)
-    requires { vec_len logs.old + vec_len places ≤ vec_capacity logs.old }
-    ensures logs { map (λ log. log.items) logs.new.items ≡ map (λ log. log.items) logs.old.items ++ logs_in places.items }
-    ensures room { (vec_capacity logs.new ≡ vec_capacity logs.old) × (vec_len logs.new ≡ vec_len logs.old + vec_len places) }
+/// Moves the logs out of these slots, for which there is room.
+fn move_logs(alloc: Global, seat_slots: Vec<Option<SeatParty>>, logs: &mut Vec<Vec<Entry>>)
+    requires { vec_len logs.old + vec_len seat_slots ≤ vec_capacity logs.old }
+    ensures logs { map (λ log. log.items) logs.new.items ≡ map (λ log. log.items) logs.old.items ++ logs_in seat_slots.items }
+    ensures room { (vec_capacity logs.new ≡ vec_capacity logs.old) × (vec_len logs.new ≡ vec_len logs.old + vec_len seat_slots) }
 {
-    for place in places {
-        let log = match place {
+    for slot in seat_slots {
+        let log = match slot {
             Some(party) => party.into_entries(),
             None => Vec::new(alloc),
         };
@@ -75,7 +75,7 @@ fn move_logs(alloc: Global, places: Vec<Option<SeatParty>>, logs: &mut Vec<Vec<E
 }
 
 impl CollectorHolder {
-    /// Closes the table, once every seat was folded in: reads each word, and moves each log out of its place.
+    /// Closes the table, once every seat was folded in: reads each word, and moves each log out of its slot.
     pub fn close(self, alloc: Global) -> Result<Closed, CloseFault>
         requires { AllFolded self.heap self.known.seats }
         ensures heap { IfOk result (λ closed. closed.heap ≡ self.heap) }
@@ -87,7 +87,7 @@ impl CollectorHolder {
         let Ok(mut words) = Vec::with_capacity(alloc, count) else {
             return Err(CloseFault { holder: self });
         };
-        let Ok(mut logs) = Vec::with_capacity(alloc, self.places.len() + 1) else {
+        let Ok(mut logs) = Vec::with_capacity(alloc, self.seat_slots.len() + 1) else {
             return Err(CloseFault { holder: self });
         };
         let CollectorHolder {
@@ -95,11 +95,11 @@ impl CollectorHolder {
             mut token,
             heap,
             party,
-            places,
+            seat_slots,
             folded,
         } = self;
         read_all(&table.shared, &mut token, &heap, &mut words, count);
-        move_logs(alloc, places, &mut logs);
+        move_logs(alloc, seat_slots, &mut logs);
         logs.push_reserved(party.into_entries());
         Ok(Closed::of(heap, words, logs, folded))
     }

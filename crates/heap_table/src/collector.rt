@@ -8,7 +8,7 @@ ghost use Rattle.heap_table.specs.Opened.{EachOpens};
 ghost use Rattle.heap_table.specs.Quiet.{is_quiet};
 ghost use Rattle.heap_table.specs.Told.{ToldAtTurn};
 
-use crate::collector::places::empty_places;
+use crate::collector::slots::empty_slots;
 use crate::rule::{SharedTable, Token};
 use crate::shared_steps::SharedSteps;
 use crate::touch::touch;
@@ -22,17 +22,17 @@ use std::sync::Arc;
 mod copying;
 mod handshake;
 mod marking;
-mod places;
+mod slots;
 mod sweeping;
 
-/// The collector of a table: the right to make its turns, with what is kept of it and its log, and a place for each seat that it folds in.
+/// The collector of a table: the right to make its turns, with what is kept of it and its log, and a slot for each seat that it folds in.
 #[derive(Drop)]
 pub struct CollectorHolder<L: Entries = Log, C: CountsEntries = Log> {
     pub(crate) table: SharedTable,
     pub(crate) token: Token,
     pub(crate) heap: Heap,
     pub(crate) party: CollectorParty<C>,
-    pub(crate) places: Vec<Option<SeatParty<L>>>,
+    pub(crate) seat_slots: Vec<Option<SeatParty<L>>>,
     pub(crate) folded: u64,
 }
 
@@ -51,7 +51,7 @@ impl<L: Entries, C: CountsEntries> Model for CollectorHolder<L, C> {
       spare = holder.party.spare;
     } };
 
-    ghost invariant = { λ holder. KeepsCollector (arc_value holder.table).shared.table_id (arc_value holder.table).shared.key holder.token.table_id holder.token.me holder.heap holder.party.collector holder.places.items holder.folded };
+    ghost invariant = { λ holder. KeepsCollector (arc_value holder.table).shared.table_id (arc_value holder.table).shared.key holder.token.table_id holder.token.me holder.heap holder.party.collector holder.seat_slots.items holder.folded };
 }
 
 impl<L: Entries, C: CountsEntries> CollectorHolder<L, C> {
@@ -64,7 +64,7 @@ impl<L: Entries, C: CountsEntries> CollectorHolder<L, C> {
         ensures opens { IfOk result (λ holder. EachOpens heap) }
     {
         let words = opening_words(alloc, &heap)?;
-        let places = empty_places(alloc, heap.seats)?;
+        let seat_slots = empty_slots(alloc, heap.seats)?;
         let (shared, token) = Table::of_words(alloc, words.as_slice(), &heap)?;
         let table = Arc::new(alloc, shared)?;
         Ok(CollectorHolder {
@@ -72,16 +72,16 @@ impl<L: Entries, C: CountsEntries> CollectorHolder<L, C> {
             token,
             heap,
             party: CollectorParty::opening(alloc),
-            places,
+            seat_slots,
             folded: 0,
         })
     }
 
-    /// The heap whose table it is, each of whose seats has a place.
+    /// The heap whose table it is, each of whose seats has a slot.
     pub fn heap(&self) -> Heap
         ensures heap { result ≡ self.now.heap }
         ensures limits { IsHeap result }
-        ensures places { length self.now.known.seats ≡ result.seats }
+        ensures seat_slots { length self.now.known.seats ≡ result.seats }
     {
         self.heap
     }

@@ -1,6 +1,6 @@
 ghost use Rattle.std.specs.Prelude.{◌≡◌, ◌+◌, ◌<◌, ◌≤◌, ◌^◌, Some, [], true, length, OnOk, OnErr, ◌↔◌, IsTrue};
 ghost use Rattle.core_machine.specs.Moves.{due_step};
-ghost use Rattle.core_machine.specs.declared.place.Place.TheVariants.{Idle};
+ghost use Rattle.core_machine.specs.declared.point.Point.TheVariants.{Idle};
 ghost use Rattle.core_machine.specs.machine.Machine.{MayBegin, MayBeginInner, after_begin, after_inner_begin};
 ghost use Rattle.core_rule.specs.told.Told.{IsAsTold};
 ghost use Rattle.heap_table.specs.Quiet.{is_quiet};
@@ -50,7 +50,7 @@ impl<L: Entries> Model for Holder<L> {
 
 impl<L: Entries> Holder<L> {
     /// The token with the seat's data, which are those of its view.
-    pub(crate) fn into_parts(self) -> (Token, SeatParty<L>)
+    pub(crate) fn into_token_and_party(self) -> (Token, SeatParty<L>)
         requires { self.seat.left ≡ true }
         ensures table { result.0.table_id ≡ self.table }
         ensures knows { result.0.me ≡ (seat_view self.number self.seat, []) }
@@ -86,7 +86,7 @@ impl<L: Entries> Holder<L> {
     pub fn party(&self) -> &SeatParty<L>
         ensures seat { result.now.seat ≡ self.now.seat }
         ensures sound { IsSound self.now }
-        ensures own { self.now.seat.place ≡ Idle → IsAsTold self.now.heap self.now.number self.now.seat }
+        ensures own { self.now.seat.point ≡ Idle → IsAsTold self.now.heap self.now.number self.now.seat }
     {
         &self.party
     }

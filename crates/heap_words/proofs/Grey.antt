@@ -6,9 +6,9 @@ use Rattle.std.proofs.lemmas.Nat.Bits.{bit_at_and, bit_at_not, bit_at-lt, bit_at
 use Rattle.heap_words.specs.Control.{is_grey, lowest_grey_of}
 use Rattle.heap_words.proofs.Finding.{found_is_first_passing, none_passing_none_found}
 
--- a bit of a word's part
-pub bit_of_part_is_words : (word from i : ℕ) → i < 16 → bit_at (word / 2 ^ from % 2 ^ 16) i ≡ bit_at word (from + i)
-bit_of_part_is_words word from i within =
+-- a bit of a word's mask
+pub bit_of_mask_is_words : (word from i : ℕ) → i < 16 → bit_at (word / 2 ^ from % 2 ^ 16) i ≡ bit_at word (from + i)
+bit_of_mask_is_words word from i within =
     let whole : word / 2 ^ from ≡ word / 2 ^ from / 2 ^ 16 * 2 ^ 16 + word / 2 ^ from % 2 ^ 16 = omega arith in
     sym (bit_at_cat_low (word / 2 ^ from / 2 ^ 16) 16 (word / 2 ^ from % 2 ^ 16) i within)
     ∙ ap (λ x. bit_at x i) (sym whole) ∙ ap (λ x. x % 2) (shr-shr word from i)
@@ -27,19 +27,19 @@ grey_of word = bit_and (word / 2 ^ 32 % 2 ^ 16) (2 ^ 16 - 1 - word / 2 ^ 48)
 
 module _ (word : ℕ) (wide : word < 2 ^ 64) where
   scanned_bit : (i : ℕ) → i < 16 → bit_at (word / 2 ^ 48) i ≡ bit_at word (48 + i)
-  scanned_bit i within = let same : word / 2 ^ 48 % 2 ^ 16 ≡ word / 2 ^ 48 = omega arith in ap (λ x. bit_at x i) (sym same) ∙ bit_of_part_is_words word 48 i within
+  scanned_bit i within = let same : word / 2 ^ 48 % 2 ^ 16 ≡ word / 2 ^ 48 = omega arith in ap (λ x. bit_at x i) (sym same) ∙ bit_of_mask_is_words word 48 i within
 
   grey_bit : (i : ℕ) → i < 16 → bit_at (grey_of word) i ≡ min (bit_at word (32 + i)) (1 - bit_at word (48 + i))
   grey_bit i within =
       let and_ = bit_at_and (word / 2 ^ 32 % 2 ^ 16) (2 ^ 16 - 1 - word / 2 ^ 48) i in
       let not_ = bit_at_not w16 (word / 2 ^ 48) i (omega arith) within in
-      omega (arith, bit_of_part_is_words word 32 i within, scanned_bit i within)
+      omega (arith, bit_of_mask_is_words word 32 i within, scanned_bit i within)
 
   grey_tells : (i : ℕ) → i < 16 → is_grey word i ≡ eqb (bit_at (grey_of word) i) 1
   grey_tells i within =
-      let place : i % 16 ≡ i = omega arith in
+      let position : i % 16 ≡ i = omega arith in
       let bit = grey_bit i within in
-      rw (place, bit) (both (bit_at word (32 + i)) (bit_at word (48 + i)) (bit_at-lt word (32 + i)) (bit_at-lt word (48 + i)))
+      rw (position, bit) (both (bit_at word (32 + i)) (bit_at word (48 + i)) (bit_at-lt word (32 + i)) (bit_at-lt word (48 + i)))
 
   -- where no bit is left none is grey
   pub no_bit_no_grey : grey_of word ≡ 0 → lowest_grey_of word ≡ None

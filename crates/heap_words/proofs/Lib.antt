@@ -1,4 +1,4 @@
 pub mod Fields
 pub mod Finding
 pub mod Grey
-pub mod Places
+pub mod Positions

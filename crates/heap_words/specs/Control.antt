@@ -19,8 +19,8 @@ abbrev pub scanned_at : ℕ → ℕ
 scanned_at fragment = 48 + fragment % 16
 
 -- a fragment's bit among the sixteen of its group
-abbrev pub place_bit_of : ℕ → ℕ
-place_bit_of fragment = 2 ^ taken_at fragment
+abbrev pub fragment_bit_of : ℕ → ℕ
+fragment_bit_of fragment = 2 ^ taken_at fragment
 
 -- the fragment's taken bit isn't set in the control word
 abbrev pub is_clear : ℕ → ℕ → Bool
@@ -55,7 +55,7 @@ blacken_bit_of fragment = 2 ^ scanned_at fragment
 abbrev pub is_grey : ℕ → ℕ → Bool
 is_grey word fragment = if bit_at word (marked_at fragment) == 1 then bit_at word (scanned_at fragment) == 0 else false
 
--- the lowest of a group's sixteen places whose fragment is grey, if one is
+-- the lowest of a group's sixteen positions whose fragment is grey, if one is
 abbrev pub lowest_grey_of : ℕ → Option ℕ
 lowest_grey_of word = find (is_grey word) (range_with_len 0 16)
 
@@ -71,14 +71,14 @@ marks_cleared = 2 ^ 32 - 1
 abbrev pub taken_count_of : ℕ → ℕ
 taken_count_of word = count_ones (word % 2 ^ 16)
 
--- the fragments of a group that are born and not marked, each by its place
+-- the fragments of a group that are born and not marked, each by its position
 abbrev pub dead_bits_of : ℕ → ℕ
 dead_bits_of word = bit_and (word / 2 ^ 16 % 2 ^ 16) (2 ^ 16 - 1 - word / 2 ^ 32 % 2 ^ 16)
 
--- the marked fragments of a group, each by its place
+-- the marked fragments of a group, each by its position
 abbrev pub marked_bits_of : ℕ → ℕ
 marked_bits_of word = word / 2 ^ 32 % 2 ^ 16
 
--- the first of the sixteen places from this one on whose bit is set, if one is
-abbrev pub next_place_of : ℕ → ℕ → Option ℕ
-next_place_of bits from = find (λ place. bit_at bits place == 1) (range_with_len from (16 - from))
+-- the first of the sixteen positions from this one on whose bit is set, if one is
+abbrev pub next_position_of : ℕ → ℕ → Option ℕ
+next_position_of bits from = find (λ position. bit_at bits position == 1) (range_with_len from (16 - from))

@@ -1,7 +1,7 @@
 use Rattle.std.specs.Prelude.{ℕ, ◌+◌, ◌*◌, ◌/◌, ◌%◌, ◌^◌, ◌<◌}
 use Rattle.heap_words.specs.declared.group.Group.{Group}
 
--- each part has at most sixteen bits
+-- each mask has at most sixteen bits
 abbrev pub IsGroup : Group → Type 0
 IsGroup group =
     (group.taken < 2 ^ 16) × (group.born < 2 ^ 16) × (group.marked < 2 ^ 16) × (group.scanned < 2 ^ 16)

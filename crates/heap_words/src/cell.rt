@@ -17,7 +17,7 @@ pub struct Cell {
 
 impl Cell {
     /// The word of the cell.
-    #[tactic(auto, using(crate::proofs::Fields::cell_parts))]
+    #[tactic(auto, using(crate::proofs::Fields::cell_components))]
     pub fn pack(&self) -> u64
         requires { self.now.value < 2 ^ 30 }
         ensures { result ≡ cell_word self.now }
@@ -40,7 +40,7 @@ impl Cell {
     /// The value and the stamp of the fixed cell that packs to this word.
     pub(crate) fn read_fixed(word: u64) -> Option<(u32, u32)>
         ensures { MatchOption result
-            ((cell_of word).kind ≢ Fixed) (λ parts. cell_of word ≡ fixed_cell parts.0 parts.1) }
+            ((cell_of word).kind ≢ Fixed) (λ components. cell_of word ≡ fixed_cell components.0 components.1) }
     {
         let Cell { kind, value, stamp } = Cell::read(word);
         match kind {

@@ -1,5 +1,5 @@
 ghost use Rattle.std.specs.Prelude.{◌≡◌};
-ghost use Rattle.heap_words.specs.Control.{place_bit_of, is_clear as is_clear_in, all_but_of, birth_bits_of, shade_bit_of, blacken_bit_of, lowest_grey_of, free_mask_of, dead_bits_of, marked_bits_of, next_place_of, taken_count_of};
+ghost use Rattle.heap_words.specs.Control.{fragment_bit_of, is_clear as is_clear_in, all_but_of, birth_bits_of, shade_bit_of, blacken_bit_of, lowest_grey_of, free_mask_of, dead_bits_of, marked_bits_of, next_position_of, taken_count_of};
 
 use crate::group::Group;
 
@@ -10,15 +10,15 @@ pub const ALL_TAKEN: u64 = 0xffff;
 pub const MARKS_CLEARED: u64 = 0xffff_ffff;
 
 /// The bit of a fragment among the sixteen of its group.
-#[tactic(auto, using(crate::proofs::Fields::place_shift))]
-pub fn place_bit(fragment: u16) -> u16
-    ensures { result ≡ place_bit_of fragment }
+#[tactic(auto, using(crate::proofs::Fields::position_shift))]
+pub fn fragment_bit(fragment: u16) -> u16
+    ensures { result ≡ fragment_bit_of fragment }
 {
     1 << (fragment % 16)
 }
 
 /// Whether the fragment's taken bit isn't set in its group's control word.
-#[tactic(auto, using(crate::proofs::Fields::place_test))]
+#[tactic(auto, using(crate::proofs::Fields::position_test))]
 pub fn is_clear(word: u64, fragment: u16) -> bool
     ensures { result ≡ is_clear_in word fragment }
 {
@@ -58,7 +58,7 @@ pub fn blacken_bit(fragment: u16) -> u64
     1 << (48 + fragment % 16)
 }
 
-/// The lowest of a group's sixteen places whose fragment is marked and not scanned.
+/// The lowest of a group's sixteen positions whose fragment is marked and not scanned.
 pub fn lowest_grey(word: u64) -> Option<u16>
     ensures { result ≡ lowest_grey_of word }
 {
@@ -85,7 +85,7 @@ pub fn taken_count(word: u64) -> u32
     Group::read(word).taken.count_ones()
 }
 
-/// The fragments of a group that are born and not marked, each by its place.
+/// The fragments of a group that are born and not marked, each by its position.
 pub fn dead_bits(word: u64) -> u16
     ensures { result ≡ dead_bits_of word }
 {
@@ -93,16 +93,16 @@ pub fn dead_bits(word: u64) -> u16
     group.born & !group.marked
 }
 
-/// The marked fragments of a group, each by its place.
+/// The marked fragments of a group, each by its position.
 pub fn marked_bits(word: u64) -> u16
     ensures { result ≡ marked_bits_of word }
 {
     Group::read(word).marked
 }
 
-/// The first place from this one on whose bit is set.
-pub fn next_place(bits: u16, from: u8) -> Option<u8>
-    ensures { result ≡ next_place_of bits from }
+/// The first position from this one on whose bit is set.
+pub fn next_position(bits: u16, from: u8) -> Option<u8>
+    ensures { result ≡ next_position_of bits from }
 {
     if from >= 16 {
         return None;

@@ -1,12 +1,12 @@
 ghost use Rattle.std.specs.Prelude.{◌≡◌};
 ghost use Rattle.heap_words.specs.Group.{group_of, group_word};
 
-/// The control bits of sixteen fragments in a row: bit j of each part is that of fragment j.
+/// The control bits of sixteen fragments in a row: bit j of each mask is that of fragment j.
 #[derive(Clone, Copy, Debug, PartialEq, Eq)]
 pub struct Group {
-    /// Held by a seat, or part of an object.
+    /// Held by a seat, or an object's.
     pub taken: u16,
-    /// Part of an object.
+    /// An object's.
     pub born: u16,
     /// Grey or black in the collector's marking.
     pub marked: u16,
@@ -16,7 +16,7 @@ pub struct Group {
 
 impl Group {
     /// The word of the group.
-    #[tactic(auto, using(crate::proofs::Fields::group_parts))]
+    #[tactic(auto, using(crate::proofs::Fields::group_masks))]
     pub fn pack(&self) -> u64
         ensures { result ≡ group_word self.now }
     {

@@ -10,7 +10,7 @@ use Rattle.mutator_seat.specs.Resting.{IsBetweenCalls}
 
 pub first_is_between_calls : (heap : Heap) (held : SeatHeld) → held.seat ≡ opening_seat heap held.number → IsBetweenCalls held
 first_is_between_calls heap held opens = record {
-  idle = ap (λ (seat : Seat). seat.place) opens;
+  idle = ap (λ (seat : Seat). seat.point) opens;
   own = subst (All (IsOwn held.number)) (sym (ap (λ (seat : Seat). seat.mine) opens)) (All-nil (IsOwn held.number));
   stamps = omega (arith, ap (λ (seat : Seat). seat.sets) opens);
 }

@@ -1,4 +1,4 @@
 pub mod FirstCalls
-pub mod Parts
+pub mod CallSteps
 pub mod Players
 pub mod Popped

@@ -9,7 +9,7 @@ mod interleavings;
 mod machine;
 mod merges;
 mod paces;
-mod parts;
+mod call_steps;
 mod scripts;
 mod streams;
 mod table;

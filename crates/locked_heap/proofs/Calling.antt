@@ -38,11 +38,11 @@ served_once commands.Collect once = absurd (once refl)
 served_once _ once = tt
 
 -- where few commands were answered, a name and a stamp are left
-number_few : (made sets place : ℕ) (command : Command) → made ≤ place → sets ≤ place → place + 1 < stamp_limit → HasNumberLeft made sets command
-number_few made sets place (commands.New d fields) few_made few_sets few = omega (arith, few_made, few)
-number_few made sets place (commands.Array d cells) few_made few_sets few = omega (arith, few_made, few)
-number_few made sets place (commands.Set r i v) few_made few_sets few = omega (arith, few_sets, few)
-number_few made sets place _ few_made few_sets few = tt
+number_few : (made sets position : ℕ) (command : Command) → made ≤ position → sets ≤ position → position + 1 < stamp_limit → HasNumberLeft made sets command
+number_few made sets position (commands.New d fields) few_made few_sets few = omega (arith, few_made, few)
+number_few made sets position (commands.Array d cells) few_made few_sets few = omega (arith, few_made, few)
+number_few made sets position (commands.Set r i v) few_made few_sets few = omega (arith, few_sets, few)
+number_few made sets position _ few_made few_sets few = tt
 
 module _ (runs : EveryRunKeeps) (given : Given) (recorded : Recorded) (seats : List Progress) (number : ℕ) (run : IsRunFrom given recorded) (all : AllHaveCome given recorded.history recorded.machine.state seats)
     (below : number < given.heap.seats) where
@@ -58,16 +58,16 @@ module _ (runs : EveryRunKeeps) (given : Given) (recorded : Recorded) (seats : L
   can_begin_command command next once =
       let come = all.each number below in
       let seat : Seat = seat_at recorded.machine.state number in
-      let place : ℕ = (progress_at seats number).place in
-      let within : place < length (script_of given number) = slice_get_within (script_of given number) place command next.next in
-      let of_script : IsOfScript command = subst IsOfScript (get_or_from_slice_get (script_of given number) place command command next.next) (given_script_is_right.each place command within) in (
+      let position : ℕ = (progress_at seats number).position in
+      let within : position < length (script_of given number) = slice_get_within (script_of given number) position command next.next in
+      let of_script : IsOfScript command = subst IsOfScript (get_or_from_slice_get (script_of given number) position command command next.next) (given_script_is_right.each position command within) in (
         here,
         record {
           idle = run.led.all_idle number here;
           present = come.leaves ∙ next.there;
           served = served_once command once;
           in_range = of_script.0;
-          numbered = number_few seat.made seat.sets place command (come.few_objects next.there) (come.few_sets next.there) (omega (arith, within, given_script_is_right.few));
+          numbered = number_few seat.made seat.sets position command (come.few_objects next.there) (come.few_sets next.there) (omega (arith, within, given_script_is_right.few));
         },
       )
 
@@ -88,23 +88,23 @@ fresh_on given told number seat now progress next come finds not is =
 module _ (runs : EveryRunKeeps) (given : Given) (old new : Recorded) (seats : List Progress) (number : ℕ) (command : Command) (reply : Reply) (run : IsRunFrom given old)
     (all : AllHaveCome given old.history old.machine.state seats) (below : number < given.heap.seats) (makes : MakesCall old new number command reply) where
   -- once it was called the seat has come further
-  pub all_have_come_after_call : (next : Progress) → IsNext given seats number command → command ≢ commands.Collect → next ≡ record (progress_at seats number) { place = (progress_at seats number).place + 1 }
+  pub all_have_come_after_call : (next : Progress) → IsNext given seats number command → command ≢ commands.Collect → next ≡ record (progress_at seats number) { position = (progress_at seats number).position + 1 }
       → AllHaveCome given new.history new.machine.state (slice_set seats number next)
   all_have_come_after_call next is_next once is =
       let come = all.each number below in
       let heap = old.machine.heap in
       let seat : Seat = seat_at old.machine.state number in
       let now : Seat = seat_at new.machine.state number in
-      let within = slice_get_within (script_of given number) (progress_at seats number).place command is_next.next in
-      let of_script : IsOfScript command = subst IsOfScript (get_or_from_slice_get (script_of given number) (progress_at seats number).place command command is_next.next)
-      ((given_script_is_right runs given old seats number run all below).each (progress_at seats number).place command within) in
+      let within = slice_get_within (script_of given number) (progress_at seats number).position command is_next.next in
+      let of_script : IsOfScript command = subst IsOfScript (get_or_from_slice_get (script_of given number) (progress_at seats number).position command command is_next.next)
+      ((given_script_is_right runs given old seats number run all below).each (progress_at seats number).position command within) in
       let finds = finds_grow_by_call heap old.machine.state new.machine.state number command reply makes.call in
       let paid : IsPaid given.patience (waits_told number old.history + 0) next.paid = rw is (subst (λ (n : ℕ). IsPaid given.patience n (progress_at seats number).paid) (omega arith) come.paid) in
       all_have_come_with_one given old.history new.history old.machine.state new.machine.state seats number all below next (makes.call.before ++ Said number command reply ∷ [])
       (others_same_after_call heap old.machine.state new.machine.state number command reply makes.call) makes.noted
       (λ other apart. tells_none_of_others_call other number makes.call.before command reply apart makes.call.beside)
       (has_come_to_next given old.history new.history number seat now (progress_at seats number) come (makes.call.before ++ Said number command reply ∷ []) makes.noted command 0 next is_next.next is_next.there
-      (tells_one_of_call number makes.call.before command reply once makes.call.beside) (makes.counts.present_stays of_script.1) makes.counts.made_more makes.counts.sets_more (ap (λ (p : Progress). p.place) is)
+      (tells_one_of_call number makes.call.before command reply once makes.call.beside) (makes.counts.present_stays of_script.1) makes.counts.made_more makes.counts.sets_more (ap (λ (p : Progress). p.position) is)
       (ap (λ (p : Progress). p.gone) is) paid (omega (arith, ap (λ (p : Progress). p.paid) is, come.grown, finds.finds))
       (fresh_on given old.history number seat now (progress_at seats number) next come finds (λ at_collect. once (some_same command commands.Collect (sym is_next.next ∙ at_collect.next))) (ap (λ (p : Progress). p.target) is)))
 
@@ -124,7 +124,7 @@ left_is_told runs given recorded number run below =
 -- once it has left it has come to its end
 pub all_have_come_after_leave : (runs : EveryRunKeeps) (given : Given) (old new : Recorded) (seats : List Progress) (number : ℕ) (reply : Reply) (next : Progress) → IsRunFrom given old
     → AllHaveCome given old.history old.machine.state seats → number < given.heap.seats → MakesCall old new number commands.Leave reply → (progress_at seats number).gone ≡ false
-    → (progress_at seats number).place ≡ length (script_of given number) → next ≡ record (progress_at seats number) { gone = true } → AllHaveCome given new.history new.machine.state (slice_set seats number next)
+    → (progress_at seats number).position ≡ length (script_of given number) → next ≡ record (progress_at seats number) { gone = true } → AllHaveCome given new.history new.machine.state (slice_set seats number next)
 all_have_come_after_leave runs given old new seats number reply next run all below makes there through is =
     let heap = old.machine.heap in
     let added : List Entry = makes.call.before ++ Said number commands.Leave reply ∷ [] in
@@ -134,7 +134,7 @@ all_have_come_after_leave runs given old new seats number reply next run all bel
     all_have_come_with_one given old.history new.history old.machine.state new.machine.state seats number all below next added (others_same_after_call heap old.machine.state new.machine.state number commands.Leave reply makes.call) makes.noted
     (λ other apart. tells_none_of_others_call other number makes.call.before commands.Leave reply apart makes.call.beside)
     (has_come_to_leave given old.history new.history number (seat_at old.machine.state number) (seat_at new.machine.state number) (progress_at seats number) (all.each number below) added makes.noted next through there
-    (tells_one_of_call number makes.call.before commands.Leave reply (λ e. cc e) makes.call.beside) left (ap (λ (p : Progress). p.place) is) (ap (λ (p : Progress). p.gone) is) (ap (λ (p : Progress). p.paid) is)
+    (tells_one_of_call number makes.call.before commands.Leave reply (λ e. cc e) makes.call.beside) left (ap (λ (p : Progress). p.position) is) (ap (λ (p : Progress). p.gone) is) (ap (λ (p : Progress). p.paid) is)
     finds.finds
     (fresh_on given old.history number (seat_at old.machine.state number) (seat_at new.machine.state number) (progress_at seats number) next (all.each number below) finds
-    (λ at_collect. let within = slice_get_within (script_of given number) (progress_at seats number).place commands.Collect at_collect.next in absurd (omega (arith, within, through))) (ap (λ (p : Progress). p.target) is)))
+    (λ at_collect. let within = slice_get_within (script_of given number) (progress_at seats number).position commands.Collect at_collect.next in absurd (omega (arith, within, through))) (ap (λ (p : Progress). p.target) is)))

@@ -93,26 +93,26 @@ module _ (given : Given) (told after : List Entry) (number : ℕ) (seat now : Se
   }
 
   -- a seat that is there has told no leave
-  there_told : progress.gone ≡ false → commands_told number told ≡ take progress.place (script_of given number)
-  there_told there = come.commands ∙ ap (λ b. take progress.place (script_of given number) ++ leave_told b) there ∙ append-nil (take progress.place (script_of given number))
+  there_told : progress.gone ≡ false → commands_told number told ≡ take progress.position (script_of given number)
+  there_told there = come.commands ∙ ap (λ b. take progress.position (script_of given number) ++ leave_told b) there ∙ append-nil (take progress.position (script_of given number))
 
   -- it has answered its next command
-  pub has_come_to_next : (command : Command) (waits : ℕ) (next : Progress) → slice_get (script_of given number) progress.place ≡ Some command → progress.gone ≡ false → TellsOne number command waits added
-      → now.left ≡ seat.left → now.made ≤ seat.made + 1 → now.sets ≤ seat.sets + 1 → next.place ≡ progress.place + 1 → next.gone ≡ progress.gone
+  pub has_come_to_next : (command : Command) (waits : ℕ) (next : Progress) → slice_get (script_of given number) progress.position ≡ Some command → progress.gone ≡ false → TellsOne number command waits added
+      → now.left ≡ seat.left → now.made ≤ seat.made + 1 → now.sets ≤ seat.sets + 1 → next.position ≡ progress.position + 1 → next.gone ≡ progress.gone
       → IsPaid given.patience (waits_told number told + waits) next.paid → next.paid ≤ now.looks.waits → IsFresh now next → HasCome given after number now next
-  has_come_to_next command waits next here there one left made sets place gone paid finds fresh =
+  has_come_to_next command waits next here there one left made sets position gone paid finds fresh =
       let script : List Command = script_of given number in
-      let within : progress.place < length script = slice_get_within script progress.place command here in
-      let further : take next.place script ≡ take progress.place script ++ command ∷ []
-      = ap (λ (n : ℕ). take n script) place ∙ take_more script progress.place command within ∙ ap (λ (c : Command). take progress.place script ++ c ∷ []) (get_or_from_slice_get script progress.place command command here) in
+      let within : progress.position < length script = slice_get_within script progress.position command here in
+      let further : take next.position script ≡ take progress.position script ++ command ∷ []
+      = ap (λ (n : ℕ). take n script) position ∙ take_more script progress.position command within ∙ ap (λ (c : Command). take progress.position script ++ c ∷ []) (get_or_from_slice_get script progress.position command command here) in
       record {
-        within = omega (arith, place, within);
+        within = omega (arith, position, within);
         commands = ap (commands_told number) grown ∙ commands_told_of_append number told added ∙ ap (λ (l : List Command). commands_told number told ++ l) one.commands
-            ∙ ap (λ (l : List Command). l ++ command ∷ []) (there_told there) ∙ sym further ∙ sym (append-nil (take next.place script)) ∙ ap (λ b. take next.place script ++ leave_told b) (sym (gone ∙ there));
+            ∙ ap (λ (l : List Command). l ++ command ∷ []) (there_told there) ∙ sym further ∙ sym (append-nil (take next.position script)) ∙ ap (λ b. take next.position script ++ leave_told b) (sym (gone ∙ there));
         through = λ left. absurd (cc (left, gone, there));
         leaves = left ∙ come.leaves ∙ sym gone;
-        few_objects = λ still. omega (arith, made, come.few_objects there, place);
-        few_sets = λ still. omega (arith, sets, come.few_sets there, place);
+        few_objects = λ still. omega (arith, made, come.few_objects there, position);
+        few_sets = λ still. omega (arith, sets, come.few_sets there, position);
         paid = subst (λ (n : ℕ). IsPaid given.patience n next.paid) (sym (ap (waits_told number) grown ∙ omega (arith, waits_told_of_append number told added, one.counted))) paid;
         grown = finds;
         target = none_fits now.looks.first next.target fresh.first fresh.target;
@@ -120,15 +120,15 @@ module _ (given : Given) (told after : List Entry) (number : ℕ) (seat now : Se
       }
 
   -- it has left
-  pub has_come_to_leave : (next : Progress) → progress.place ≡ length (script_of given number) → progress.gone ≡ false → TellsOne number Leave 0 added → now.left ≡ true
-      → next.place ≡ progress.place → next.gone ≡ true → next.paid ≡ progress.paid → seat.looks.waits ≤ now.looks.waits → IsFresh now next → HasCome given after number now next
-  has_come_to_leave next at_end there one left place gone paid finds fresh =
+  pub has_come_to_leave : (next : Progress) → progress.position ≡ length (script_of given number) → progress.gone ≡ false → TellsOne number Leave 0 added → now.left ≡ true
+      → next.position ≡ progress.position → next.gone ≡ true → next.paid ≡ progress.paid → seat.looks.waits ≤ now.looks.waits → IsFresh now next → HasCome given after number now next
+  has_come_to_leave next at_end there one left position gone paid finds fresh =
       let script : List Command = script_of given number in
       record {
-        within = omega (arith, place, come.within);
+        within = omega (arith, position, come.within);
         commands = ap (commands_told number) grown ∙ commands_told_of_append number told added ∙ ap (λ (l : List Command). commands_told number told ++ l) one.commands
-            ∙ ap (λ (l : List Command). l ++ Leave ∷ []) (there_told there ∙ ap (λ (n : ℕ). take n script) (sym place)) ∙ ap (λ b. take next.place script ++ leave_told b) (sym gone);
-        through = λ _. place ∙ at_end;
+            ∙ ap (λ (l : List Command). l ++ Leave ∷ []) (there_told there ∙ ap (λ (n : ℕ). take n script) (sym position)) ∙ ap (λ b. take next.position script ++ leave_told b) (sym gone);
+        through = λ _. position ∙ at_end;
         leaves = left ∙ sym gone;
         few_objects = λ still. absurd (cc (still, gone));
         few_sets = λ still. absurd (cc (still, gone));
@@ -140,17 +140,17 @@ module _ (given : Given) (told after : List Entry) (number : ℕ) (seat now : Se
       }
 
   -- it has begun a collect
-  pub has_come_to_collect : (next : Progress) → TellsNone number added → now.left ≡ seat.left → now.made ≡ seat.made → now.sets ≡ seat.sets → next.place ≡ progress.place → next.gone ≡ progress.gone
+  pub has_come_to_collect : (next : Progress) → TellsNone number added → now.left ≡ seat.left → now.made ≡ seat.made → now.sets ≡ seat.sets → next.position ≡ progress.position → next.gone ≡ progress.gone
       → next.paid ≡ seat.looks.waits → seat.looks.waits ≤ now.looks.waits → IsTargetOf now.looks.first next.target → IsAtCollect given number next → HasCome given after number now next
-  has_come_to_collect next none left made sets place gone paid finds target collects =
+  has_come_to_collect next none left made sets position gone paid finds target collects =
       record {
-        within = omega (arith, place, come.within);
+        within = omega (arith, position, come.within);
         commands = ap (commands_told number) grown ∙ commands_told_of_append number told added ∙ ap (λ (l : List Command). commands_told number told ++ l) none.commands ∙ append-nil (commands_told number told) ∙ come.commands
-            ∙ ap (λ (n : ℕ). take n (script_of given number) ++ leave_told progress.gone) (sym place) ∙ ap (λ b. take next.place (script_of given number) ++ leave_told b) (sym gone);
-        through = λ gone_now. place ∙ come.through (sym gone ∙ gone_now);
+            ∙ ap (λ (n : ℕ). take n (script_of given number) ++ leave_told progress.gone) (sym position) ∙ ap (λ b. take next.position (script_of given number) ++ leave_told b) (sym gone);
+        through = λ gone_now. position ∙ come.through (sym gone ∙ gone_now);
         leaves = left ∙ come.leaves ∙ sym gone;
-        few_objects = λ there. omega (arith, made, place, come.few_objects (sym gone ∙ there));
-        few_sets = λ there. omega (arith, sets, place, come.few_sets (sym gone ∙ there));
+        few_objects = λ there. omega (arith, made, position, come.few_objects (sym gone ∙ there));
+        few_sets = λ there. omega (arith, sets, position, come.few_sets (sym gone ∙ there));
         paid = subst (λ (n : ℕ). IsPaid given.patience n next.paid) (sym (ap (waits_told number) grown ∙ omega (arith, waits_told_of_append number told added, none.waits)))
             (stays_paid given.patience (waits_told number told) progress.paid next.paid (omega (arith, paid, come.grown)) come.paid);
         grown = omega (arith, paid, finds);

@@ -6,12 +6,12 @@ use Rattle.heap_model.specs.declared.command.Command.{Command}
 use Rattle.heap_model.specs.declared.command.Command.TheVariants as commands
 use Rattle.heap_model.specs.declared.heap.Heap.{Heap}
 use Rattle.heap_model.specs.declared.reply.Reply.{Reply}
-use Rattle.core_machine.specs.declared.place.Access.TheVariants.{LoadingMeta, Walking, LoadingSpot, Indexing, Getting, Naming, LoadingOld, ShadingOld, ShadingNew, Swapping}
-use Rattle.core_machine.specs.declared.place.Leaving.TheVariants.{Emptying, Parting}
-use Rattle.core_machine.specs.declared.place.Making.TheVariants.{Granting, Withdrawing, Gathering, GivingBack, Refusing, Placing, Listing, Storing, Bearing}
-use Rattle.core_machine.specs.declared.place.Place.{Place}
-use Rattle.core_machine.specs.declared.place.Place.TheVariants as places
-use Rattle.core_machine.specs.declared.place.Polling.TheVariants as polling
+use Rattle.core_machine.specs.declared.point.Access.TheVariants.{LoadingMeta, Walking, LoadingSpot, Indexing, Getting, Naming, LoadingOld, ShadingOld, ShadingNew, Swapping}
+use Rattle.core_machine.specs.declared.point.Leaving.TheVariants.{Emptying, Parting}
+use Rattle.core_machine.specs.declared.point.Making.TheVariants.{Granting, Withdrawing, Gathering, GivingBack, Refusing, Placing, Listing, Storing, Bearing}
+use Rattle.core_machine.specs.declared.point.Point.{Point}
+use Rattle.core_machine.specs.declared.point.Point.TheVariants as points
+use Rattle.core_machine.specs.declared.point.Polling.TheVariants as polling
 use Rattle.core_machine.specs.machine.Calls.{PlaysCall}
 use Rattle.core_machine.specs.machine.Machine.{State, seat_at, found_by, Steps, Begins, after_begin, state_after_due, state_after, state_after_all}
 use Rattle.core_machine.specs.Moves.{Move, move_at, is_last_birth, last_birth_move, birth_move, refusal_looks}
@@ -27,7 +27,7 @@ use Rattle.core_rule.proofs.looks.Ways.{StaysFound, stays_found_after_claim, sta
 
 -- the seat stands in no inner call, has found another one behind as often at least, and has no first look where it had none
 pub record FindsOn (seat now : Seat) : Type 0 where
-  pub elsewhere : IsElsewhere now.place
+  pub elsewhere : IsElsewhere now.point
   pub finds : seat.looks.waits ≤ now.looks.waits
   pub fresh : seat.looks.first ≡ None → now.looks.first ≡ None
 
@@ -42,11 +42,11 @@ stays_on seat now stays = record {
 }
 
 -- it goes on
-same_on : (seat now : Seat) → IsElsewhere now.place → now.looks.waits ≡ seat.looks.waits → now.looks.first ≡ seat.looks.first → FindsOn seat now
+same_on : (seat now : Seat) → IsElsewhere now.point → now.looks.waits ≡ seat.looks.waits → now.looks.first ≡ seat.looks.first → FindsOn seat now
 same_on seat now elsewhere waits first = record { elsewhere = elsewhere; finds = omega (arith, waits); fresh = λ none. first ∙ none }
 
 -- or has told its reply
-over_on : (seat now : Seat) → IsElsewhere now.place → now.looks.waits ≡ seat.looks.waits → now.looks.first ≡ None → FindsOn seat now
+over_on : (seat now : Seat) → IsElsewhere now.point → now.looks.waits ≡ seat.looks.waits → now.looks.first ≡ None → FindsOn seat now
 over_on seat now elsewhere waits first = record { elsewhere = elsewhere; finds = omega (arith, waits); fresh = λ none. first }
 
 -- so it is after a move
@@ -63,7 +63,7 @@ pub finds_grow_by_compare : (b : Bool) (found : Behind) (looks : Looks) → look
 finds_grow_by_compare true found looks = one_more_on (nat_lt (looks.waits + 1) (2 ^ 64)) looks.waits
 finds_grow_by_compare false found looks = omega arith
 
-module _ (heap : Heap) (number : ℕ) (seat : Seat) (here : IsElsewhere seat.place) where
+module _ (heap : Heap) (number : ℕ) (seat : Seat) (here : IsElsewhere seat.point) where
   bears : (last : Bool) → MoveFindsOn seat (Some (if last then last_birth_move number seat else birth_move seat))
   bears true = λ found. over_on seat _ tt refl refl
   bears false = λ found. same_on seat _ here refl refl
@@ -96,37 +96,37 @@ module _ (heap : Heap) (number : ℕ) (seat : Seat) (here : IsElsewhere seat.pla
   refuses (commands.Array d cells) found = over_on seat _ tt refl refl
   refuses _ found = over_on seat _ tt refl refl
 
-  moves_on : (place : Place) → IsElsewhere place → MoveFindsOn seat (move_at heap number seat place)
-  moves_on places.Idle there = tt
-  moves_on (places.Making Granting) there = λ found. stays_on seat _ (stays_found_after_budget heap seat found)
-  moves_on (places.Making Withdrawing) there = λ found. over_on seat _ tt refl refl
-  moves_on (places.Making Gathering) there = λ found. stays_on seat _ (stays_found_after_claim heap seat found)
-  moves_on (places.Making GivingBack) there = λ found. same_on seat _ tt refl refl
-  moves_on (places.Making Refusing) there = λ found. refuses seat.command found
-  moves_on (places.Making Placing) there = λ found. same_on seat _ tt refl refl
-  moves_on (places.Making Listing) there = λ found. same_on seat _ tt refl refl
-  moves_on (places.Making Storing) there = λ found. same_on seat _ tt refl refl
-  moves_on (places.Making Bearing) there = bears (is_last_birth seat)
-  moves_on places.Local there = λ found. over_on seat _ tt refl refl
-  moves_on (places.Access LoadingMeta) there = λ found. metas found (meta_reply_of seat.command found)
-  moves_on (places.Access Walking) there = λ found. stays_on seat _ (stays_found_after_walk seat found)
-  moves_on (places.Access LoadingSpot) there = λ found. same_on seat _ tt refl refl
-  moves_on (places.Access Indexing) there = λ found. same_on seat _ tt refl refl
-  moves_on (places.Access Getting) there = λ found. gets found (head_of found)
-  moves_on (places.Access Naming) there = λ found. over_on seat _ tt refl refl
-  moves_on (places.Access LoadingOld) there = λ found. olds found (head_of found)
-  moves_on (places.Access ShadingOld) there = λ found. same_on seat _ tt refl refl
-  moves_on (places.Access ShadingNew) there = λ found. same_on seat _ tt refl refl
-  moves_on (places.Access Swapping) there = λ found. over_on seat _ tt refl refl
-  moves_on (places.Polling polling.Asking) there = λ found. polls (found == seat.answered) found
-  moves_on (places.Polling polling.Shading) there = λ found. same_on seat _ tt refl refl
-  moves_on (places.Polling polling.Answering) there = λ found. over seat.command seat.asked
-  moves_on (places.Collecting place) there = absurd there
-  moves_on (places.Leaving Emptying) there = λ found. same_on seat _ tt refl refl
-  moves_on (places.Leaving Parting) there = λ found. over_on seat _ tt refl refl
+  moves_on : (point : Point) → IsElsewhere point → MoveFindsOn seat (move_at heap number seat point)
+  moves_on points.Idle there = tt
+  moves_on (points.Making Granting) there = λ found. stays_on seat _ (stays_found_after_budget heap seat found)
+  moves_on (points.Making Withdrawing) there = λ found. over_on seat _ tt refl refl
+  moves_on (points.Making Gathering) there = λ found. stays_on seat _ (stays_found_after_claim heap seat found)
+  moves_on (points.Making GivingBack) there = λ found. same_on seat _ tt refl refl
+  moves_on (points.Making Refusing) there = λ found. refuses seat.command found
+  moves_on (points.Making Placing) there = λ found. same_on seat _ tt refl refl
+  moves_on (points.Making Listing) there = λ found. same_on seat _ tt refl refl
+  moves_on (points.Making Storing) there = λ found. same_on seat _ tt refl refl
+  moves_on (points.Making Bearing) there = bears (is_last_birth seat)
+  moves_on points.Local there = λ found. over_on seat _ tt refl refl
+  moves_on (points.Access LoadingMeta) there = λ found. metas found (meta_reply_of seat.command found)
+  moves_on (points.Access Walking) there = λ found. stays_on seat _ (stays_found_after_walk seat found)
+  moves_on (points.Access LoadingSpot) there = λ found. same_on seat _ tt refl refl
+  moves_on (points.Access Indexing) there = λ found. same_on seat _ tt refl refl
+  moves_on (points.Access Getting) there = λ found. gets found (head_of found)
+  moves_on (points.Access Naming) there = λ found. over_on seat _ tt refl refl
+  moves_on (points.Access LoadingOld) there = λ found. olds found (head_of found)
+  moves_on (points.Access ShadingOld) there = λ found. same_on seat _ tt refl refl
+  moves_on (points.Access ShadingNew) there = λ found. same_on seat _ tt refl refl
+  moves_on (points.Access Swapping) there = λ found. over_on seat _ tt refl refl
+  moves_on (points.Polling polling.Asking) there = λ found. polls (found == seat.answered) found
+  moves_on (points.Polling polling.Shading) there = λ found. same_on seat _ tt refl refl
+  moves_on (points.Polling polling.Answering) there = λ found. over seat.command seat.asked
+  moves_on (points.Collecting point) there = absurd there
+  moves_on (points.Leaving Emptying) there = λ found. same_on seat _ tt refl refl
+  moves_on (points.Leaving Parting) there = λ found. over_on seat _ tt refl refl
 
 -- by a due move
-due_on : (heap : Heap) (state : State) (number : ℕ) → number < length state.seats → IsElsewhere (seat_at state number).place → (move : Option Move) → MoveFindsOn (seat_at state number) move
+due_on : (heap : Heap) (state : State) (number : ℕ) → number < length state.seats → IsElsewhere (seat_at state number).point → (move : Option Move) → MoveFindsOn (seat_at state number) move
     → FindsOn (seat_at state number) (seat_at (state_after_due heap state number move) number)
 due_on heap state number within here None on = same_on (seat_at state number) (seat_at state number) here refl refl
 due_on heap state number within here (Some move) on =
@@ -138,13 +138,13 @@ due_seats heap state number None = refl
 due_seats heap state number (Some move) = length-set state.seats number _
 
 -- by steps
-steps_on : (heap : Heap) (number steps : ℕ) (state : State) → number < length state.seats → IsElsewhere (seat_at state number).place
+steps_on : (heap : Heap) (number steps : ℕ) (state : State) → number < length state.seats → IsElsewhere (seat_at state number).point
     → FindsOn (seat_at state number) (seat_at (state_after_all heap state (replicate steps (Steps number))) number)
 steps_on heap number zero state within here = same_on (seat_at state number) (seat_at state number) here refl refl
 steps_on heap number (suc steps) state within here =
     let seat : Seat = seat_at state number in
-    let one = due_on heap state number within here (move_at heap number seat seat.place) (moves_on heap number seat here seat.place here) in
-    on_then seat _ _ one (steps_on heap number steps (state_after heap state (Steps number)) (omega (arith, within, due_seats heap state number (move_at heap number seat seat.place))) one.elsewhere)
+    let one = due_on heap state number within here (move_at heap number seat seat.point) (moves_on heap number seat here seat.point here) in
+    on_then seat _ _ one (steps_on heap number steps (state_after heap state (Steps number)) (omega (arith, within, due_seats heap state number (move_at heap number seat seat.point))) one.elsewhere)
 
 -- by a call
 pub finds_grow_by_call : (heap : Heap) (old new : State) (number : ℕ) (command : Command) (reply : Reply) → PlaysCall heap old new number command reply → FindsOn (seat_at old number) (seat_at new number)

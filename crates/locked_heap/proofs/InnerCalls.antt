@@ -75,9 +75,9 @@ module _ (given : Given) (old new : Recorded) (seats : List Progress) (number : 
   -- its first look begins a collect
   pub all_have_come_after_look : (next : Progress) → MakesInner old new number inners.Look → IsNext given seats number Collect → IsFresh (seat_at old.machine.state number) (progress_at seats number)
       → StandsFor old.machine.heap old.machine.state [] old.history → (target : ℕ) → phase old.history ≤ cycle_phases * target → cycle_phases * target < phase old.history + cycle_phases
-      → next.target ≡ Some target → next.place ≡ (progress_at seats number).place → next.gone ≡ (progress_at seats number).gone → next.paid ≡ (seat_at old.machine.state number).looks.waits
+      → next.target ≡ Some target → next.position ≡ (progress_at seats number).position → next.gone ≡ (progress_at seats number).gone → next.paid ≡ (seat_at old.machine.state number).looks.waits
       → AllHaveCome given new.history new.machine.state (slice_set seats number next)
-  all_have_come_after_look next makes is_next fresh s target behind first is place gone paid =
+  all_have_come_after_look next makes is_next fresh s target behind first is position gone paid =
       let heap = old.machine.heap in
       let state = old.machine.state in
       let seat : Seat = seat_at state number in
@@ -89,14 +89,14 @@ module _ (given : Given) (old new : Recorded) (seats : List Progress) (number : 
       all_have_come_with_one given old.history new.history state new.machine.state seats number all is_next.within next [] (others_same_after_inner heap state new.machine.state number inners.Look makes.plays) makes.noted
       (λ other apart. tells_none_of_empty other)
       (has_come_to_collect given old.history new.history number seat now (progress_at seats number) (all.each number is_next.within) [] makes.noted next (tells_none_of_empty number) (ap (λ (t : Seat). t.left) after)
-      (ap (λ (t : Seat). t.made) after) (ap (λ (t : Seat). t.sets) after) place gone paid (omega (arith, ap (λ (t : Seat). t.looks.waits) after)) (rw (looked, is) (behind, first))
-      (record { there = gone ∙ is_next.there; next = ap (λ (n : ℕ). slice_get (script_of given number) n) place ∙ is_next.next }))
+      (ap (λ (t : Seat). t.made) after) (ap (λ (t : Seat). t.sets) after) position gone paid (omega (arith, ap (λ (t : Seat). t.looks.waits) after)) (rw (looked, is) (behind, first))
+      (record { there = gone ∙ is_next.there; next = ap (λ (n : ℕ). slice_get (script_of given number) n) position ∙ is_next.next }))
 
   -- one that answers the seat's collect takes it one command further
   pub all_have_come_after_note : (locked : LockedValue) (owed : ℕ) (over : Bool) (came : CollectReply) (next : Progress) → locked ≡ record { recorded = old; seats = seats; owed = owed; over = over } → MakesInner old new number (inners.Note came) → IsNext given seats number Collect
-      → MayAnswer given locked number came → next.target ≡ None → next.place ≡ (progress_at seats number).place + 1 → next.gone ≡ (progress_at seats number).gone → next.paid ≡ (seat_at old.machine.state number).looks.waits
+      → MayAnswer given locked number came → next.target ≡ None → next.position ≡ (progress_at seats number).position + 1 → next.gone ≡ (progress_at seats number).gone → next.paid ≡ (seat_at old.machine.state number).looks.waits
       → AllHaveCome given new.history new.machine.state (slice_set seats number next)
-  all_have_come_after_note locked owed over came next is makes is_next may fresh place gone paid =
+  all_have_come_after_note locked owed over came next is makes is_next may fresh position gone paid =
       let heap = old.machine.heap in
       let state = old.machine.state in
       let come = all.each number is_next.within in
@@ -107,7 +107,7 @@ module _ (given : Given) (old new : Recorded) (seats : List Progress) (number : 
       all_have_come_with_one given old.history new.history state new.machine.state seats number all is_next.within next added (others_same_after_inner heap state new.machine.state number (inners.Note came) makes.plays) makes.noted
       (λ other apart. tells_none_of_others_note heap state.words other number (seat_at state number).answered came apart)
       (has_come_to_next given old.history new.history number (seat_at state number) (seat_at new.machine.state number) (progress_at seats number) come added makes.noted Collect (waits_of came) next is_next.next is_next.there
-      (tells_one_by_note heap state.words number (seat_at state number).answered came) (ap (λ (t : Seat). t.left) after) (omega (arith, ap (λ (t : Seat). t.made) after)) (omega (arith, ap (λ (t : Seat). t.sets) after)) place gone
+      (tells_one_by_note heap state.words number (seat_at state number).answered came) (ap (λ (t : Seat). t.left) after) (omega (arith, ap (λ (t : Seat). t.made) after)) (omega (arith, ap (λ (t : Seat). t.sets) after)) position gone
       (earned come came (subst (λ (v : LockedValue). MayAnswer given v number came) is may)) (omega (arith, paid, ap (λ (t : Seat). t.looks.waits) after))
       (record { target = fresh; first = ap (λ (t : Seat). t.looks.first) after }))
     where

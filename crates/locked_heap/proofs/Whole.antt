@@ -52,8 +52,8 @@ module _ (runs : EveryRunKeeps) (given : Given) (locked : LockedValue) (run : Is
   all_told : (number : ℕ) → number < given.heap.seats → (progress_at locked.seats number).gone ≡ true → commands_told number locked.recorded.history ≡ script_of given number ++ Leave ∷ []
   all_told number below gone =
       let come = all.each number below in
-      come.commands ∙ ap (λ b. take (progress_at locked.seats number).place (script_of given number) ++ leave_told b) gone
-      ∙ ap (λ (l : List Command). l ++ Leave ∷ []) (take_all (progress_at locked.seats number).place (script_of given number) (omega (arith, come.through gone)))
+      come.commands ∙ ap (λ b. take (progress_at locked.seats number).position (script_of given number) ++ leave_told b) gone
+      ∙ ap (λ (l : List Command). l ++ Leave ∷ []) (take_all (progress_at locked.seats number).position (script_of given number) (omega (arith, come.through gone)))
 
 -- the last cycle began after every seat had left, and is the first that did
 ends_empty : EveryRunKeeps → (given : Given) (old : LockedValue) (new : Recorded) → IsRunFrom given old.recorded

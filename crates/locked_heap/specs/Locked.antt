@@ -75,7 +75,7 @@ pub record StandsLocked (given : Given) (locked : LockedValue) (patience : ℕ) 
 pub record IsNext (given : Given) (seats : List Progress) (number : ℕ) (command : Command) : Type 0 where
   pub within : number < given.heap.seats
   pub there : (progress_at seats number).gone ≡ false
-  pub next : slice_get (script_of given number) (progress_at seats number).place ≡ Some command
+  pub next : slice_get (script_of given number) (progress_at seats number).position ≡ Some command
 
 -- the seat is in a collect that has begun
 pub record IsCollecting (given : Given) (seats : List Progress) (number : ℕ) : Type 0 where
@@ -88,8 +88,8 @@ KeepsGone old new = (number : ℕ) → SeatHasLeft old number → SeatHasLeft ne
 
 -- the seat has come one command further at most, where it had left it stays so, the others are where they were, and the seats' workers have returned no more than before
 pub record ComesOneFurther (old new : LockedValue) (number : ℕ) : Type 0 where
-  pub onward : (progress_at old.seats number).place ≤ (progress_at new.seats number).place
-  pub few : (progress_at new.seats number).place ≤ (progress_at old.seats number).place + 1
+  pub onward : (progress_at old.seats number).position ≤ (progress_at new.seats number).position
+  pub few : (progress_at new.seats number).position ≤ (progress_at old.seats number).position + 1
   pub gone_stays : SeatHasLeft old.seats number → SeatHasLeft new.seats number
   pub others : (other : ℕ) → other ≢ number → progress_at new.seats other ≡ progress_at old.seats other
   pub over_stays : new.over ≡ old.over
@@ -129,7 +129,7 @@ HasSeenEnd locked number cycle = cycle_phases * (cycle + 1) ≤ (seat_at locked.
 -- the seat's collect was answered so, and the seat has come to its next command
 pub record TellsAnswer (old new : LockedValue) (number : ℕ) (came : CollectReply) : Type 0 where
   pub told : new.recorded.history ≡ old.recorded.history ++ Said number Collect (noted_reply came) ∷ []
-  pub onward : (progress_at new.seats number).place ≡ (progress_at old.seats number).place + 1
+  pub onward : (progress_at new.seats number).position ≡ (progress_at old.seats number).position + 1
 
 -- the collect is answered that it waits for the seat that was found behind last, where one was, and the seat was patient
 abbrev pub AnswersWait : Given → LockedValue → LockedValue → ℕ → Type 0

@@ -12,7 +12,7 @@ use Rattle.locked_heap.specs.Given.{Given, script_of}
 
 -- the seat has begun nothing
 abbrev pub at_begin : Progress
-at_begin = record { place = 0; gone = false; target = None; paid = 0 }
+at_begin = record { position = 0; gone = false; target = None; paid = 0 }
 
 -- how far the seat of this number has come
 abbrev pub progress_at : List Progress → ℕ → Progress
@@ -36,17 +36,17 @@ IsTargetOf _ _ = ⊥
 -- the seat is there, and its next command is a collect
 pub record IsAtCollect (given : Given) (number : ℕ) (progress : Progress) : Type 0 where
   pub there : progress.gone ≡ false
-  pub next : slice_get (script_of given number) progress.place ≡ Some Collect
+  pub next : slice_get (script_of given number) progress.position ≡ Some Collect
 
--- the history tells just the commands up to the place, and then the leave of a seat that has left; a seat that is there has made no more objects and done no more sets,
+-- the history tells just the commands up to the position, and then the leave of a seat that has left; a seat that is there has made no more objects and done no more sets,
 -- and for each of its replies that it waits it has found another seat behind often enough; it has a target in a collect alone, and just where that has looked
 pub record HasCome (given : Given) (told : List Entry) (number : ℕ) (seat : Seat) (progress : Progress) : Type 0 where
-  pub within : progress.place ≤ length (script_of given number)
-  pub commands : commands_told number told ≡ take progress.place (script_of given number) ++ leave_told progress.gone
-  pub through : progress.gone ≡ true → progress.place ≡ length (script_of given number)
+  pub within : progress.position ≤ length (script_of given number)
+  pub commands : commands_told number told ≡ take progress.position (script_of given number) ++ leave_told progress.gone
+  pub through : progress.gone ≡ true → progress.position ≡ length (script_of given number)
   pub leaves : seat.left ≡ progress.gone
-  pub few_objects : progress.gone ≡ false → seat.made ≤ progress.place
-  pub few_sets : progress.gone ≡ false → seat.sets ≤ progress.place
+  pub few_objects : progress.gone ≡ false → seat.made ≤ progress.position
+  pub few_sets : progress.gone ≡ false → seat.sets ≤ progress.position
   pub paid : IsPaid given.patience (waits_told number told) progress.paid
   pub grown : progress.paid ≤ seat.looks.waits
   pub target : IsTargetOf seat.looks.first progress.target

@@ -52,7 +52,7 @@ impl<N: Handed> Locked<N> {
     {
         let seats = machine.heap().seats as usize;
         let begin = Progress {
-            place: 0,
+            position: 0,
             gone: false,
             target: None,
             paid: 0,
@@ -90,7 +90,7 @@ impl<N: Handed> Locked<N> {
         requires next { IsNext N.given self.old.seats seat command.now }
         requires once { command.now ≢ Collect }
         ensures further { ComesOneFurther self.old self.new seat }
-        ensures onward { OnOk result ((progress_at self.new.seats seat).place ≡ (progress_at self.old.seats seat).place + 1) }
+        ensures onward { OnOk result ((progress_at self.new.seats seat).position ≡ (progress_at self.old.seats seat).position + 1) }
         ensures owes { OnOk result (OwesMore self.old self.new) }
         ensures still { OnErr result (OwesNoMore self.old self.new) }
     {
@@ -101,7 +101,7 @@ impl<N: Handed> Locked<N> {
         self.owed = self.owed.saturating_add(claimed(told));
         let progress = self.seats[seat as usize];
         self.seats[seat as usize] = Progress {
-            place: progress.place + 1,
+            position: progress.position + 1,
             ..progress
         };
         Ok(())
@@ -111,7 +111,7 @@ impl<N: Handed> Locked<N> {
     fn leave(&mut self, seat: u8) -> Result<(), Memory>
         requires within { seat < N.given.heap.seats }
         requires there { (progress_at self.old.seats seat).gone ≡ false }
-        requires through { (progress_at self.old.seats seat).place ≡ length (script_of N.given seat) }
+        requires through { (progress_at self.old.seats seat).position ≡ length (script_of N.given seat) }
         ensures further { ComesOneFurther self.old self.new seat }
         ensures left { OnOk result (SeatHasLeft self.new.seats seat) }
         ensures owed { OwesNoMore self.old self.new }

@@ -2,7 +2,7 @@
 #[derive(Clone, Copy)]
 pub struct Progress {
     /// How many of its commands are answered.
-    pub place: usize,
+    pub position: usize,
     /// Whether it has left.
     pub gone: bool,
     /// The cycle whose end its collect in progress is to see.

@@ -25,7 +25,7 @@ fn make_command<N: Handed, R: Wait>(
 {
     for _ in rt.forever() {
         let progress = held.lock(rt).go_on(seat, script)?;
-        if n < progress.place {
+        if n < progress.position {
             return Ok(());
         }
         yield_now();

@@ -73,7 +73,7 @@ AreLegal-from_lines Play heap entries kept = record {
 }
 AreLegal-from_lines Run heap entries kept = accepts-from_lines Run heap [] entries kept
 
--- the lines of entries, parted at a place
+-- the lines of entries, parted at a position
 parted : (count : ℕ) (entries : List Entry) → map lines.Entry (take count entries) ++ map lines.Entry (drop count entries) ≡ map lines.Entry entries
 parted count entries = sym (map-append lines.Entry (take count entries) (drop count entries)) ∙ ap (λ es. map lines.Entry es) (take-append-drop count entries)
 

@@ -27,7 +27,7 @@ pub record ShowsCounts (heap : Heap) (entries : List Entry) (mark : SpaceMark) :
   pub spine : mark.spine + words_returned entries ≡ words_granted entries
   pub budget : mark.budget ≡ heap.spine
 
--- the mark, if there is one, shows the counts at its place
+-- the mark, if there is one, shows the counts at its position
 abbrev pub ShowsAtMark : Heap → List Entry → Option SpaceMark → Type 0
 ShowsAtMark heap entries None = Unit {0}
 ShowsAtMark heap entries (Some mark) = ShowsCounts heap (take mark.before entries) mark

@@ -12,7 +12,7 @@ mod merger;
 mod pending_gets;
 mod registers;
 
-/// Puts the logs of seats and collector together, the seats' first: at each place the first entry that is ready, of the lowest log that has one.
+/// Puts the logs of seats and collector together, the seats' first: at each position the first entry that is ready, of the lowest log that has one.
 pub fn merge(alloc: Global, logs: &[Vec<Entry>], heap: Heap) -> Result<Vec<Entry>, Memory>
     requires heap { IsHeap heap }
     requires order { HasOrder heap (map (λ log. log.items) logs.now) }

@@ -11,7 +11,7 @@ use Rattle.core_machine.specs.calls.Kept.{kept_of}
 use Rattle.core_machine.specs.calls.Owes.{owes}
 use Rattle.core_machine.specs.calls.OwnStage.{OwnStage}
 use Rattle.core_machine.specs.calls.Replies.{StandsOn, IsAnswered}
-use Rattle.core_machine.specs.declared.place.Place.TheVariants.{Idle}
+use Rattle.core_machine.specs.declared.point.Point.TheVariants.{Idle}
 use Rattle.core_machine.specs.declared.step.Step.{Step}
 use Rattle.core_machine.specs.machine.Calls.{last_reply_of}
 use Rattle.core_machine.specs.machine.Machine.{MayBegin, after_begin}
@@ -45,7 +45,7 @@ module _ (old : SeatHeld) (command : Command) (rests : Rests old) (may : MayBegi
       enough : (owed need room : ℕ) → owed ≤ 2 * need + 2 → 2 * need + 4 ≤ room → owed + 2 ≤ room
       enough owed need room a b = omega arith
 
-  module _ (new : SeatHeld) (made : List Made) (makes : MakesSteps (begun old command) new made) (over : new.seat.place ≡ Idle) where
+  module _ (new : SeatHeld) (made : List Made) (makes : MakesSteps (begun old command) new made) (over : new.seat.point ≡ Idle) where
     abbrev tells : Step → ℕ → Type 0
     tells = ToldIn old made
 

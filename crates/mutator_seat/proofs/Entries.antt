@@ -21,7 +21,7 @@ use Rattle.core_machine.specs.calls.Kept.{kept_of}
 use Rattle.core_machine.specs.calls.Replies.{StandsOn}
 use Rattle.core_machine.specs.machine.Machine.{MayBegin}
 use Rattle.core_machine.specs.seat.Commands.{IsServed, MakesObject}
-use Rattle.core_machine.specs.seat.Fits.{FitsPlace, IsAtRest}
+use Rattle.core_machine.specs.seat.Fits.{FitsPoint, IsAtRest}
 use Rattle.core_machine.specs.seat.Seat.{HasNumberLeft}
 use Rattle.core_machine.proofs.own_stages.Sums.{ComeTo, come_to-append, come_to-said, come_to-takes, come_to-gives, come_to-last_gives}
 use Rattle.core_rule.specs.hand.Holding.{fragments_in_hand}
@@ -32,7 +32,7 @@ use Rattle.mutator_seat.specs.Resting.{seat_state, Rests}
 -- what a seat that rests has of its own is its reserve
 pub unborn_at_rest : (held : SeatHeld) → Rests held → spent_of held.number held.seat.mine + length held.seat.reserve ≡ taken_of held.number held.seat.mine
 unborn_at_rest held rests =
-    let rest : IsAtRest held.seat = subst (FitsPlace held.heap held.seat) rests.between.idle rests.sound.fits.at_place in
+    let rest : IsAtRest held.seat = subst (FitsPoint held.heap held.seat) rests.between.idle rests.sound.fits.at_point in
     let none : fragments_in_hand held.seat.hand held.seat.body ≡ [] = ap (fragments_in_hand held.seat.hand) rest.no_body ∙ rest.empty_hand in
     omega (arith, rests.told.unborn, ap (length {A = ℕ}) none)
 

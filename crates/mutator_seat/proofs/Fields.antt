@@ -17,8 +17,8 @@ use Rattle.heap_model.specs.graph.Objects.{target_node}
 use Rattle.core_machine.specs.calls.Kept.{Kept, kept_of}
 use Rattle.core_machine.specs.calls.Reaching.{HasOpened, ReachesField}
 use Rattle.core_machine.specs.calls.Replies.{StandsOn}
-use Rattle.core_machine.specs.declared.place.Place.{Place}
-use Rattle.core_machine.specs.declared.place.Place.TheVariants as places
+use Rattle.core_machine.specs.declared.point.Point.{Point}
+use Rattle.core_machine.specs.declared.point.Point.TheVariants as points
 use Rattle.core_machine.specs.declared.seat.register.Register.{Register}
 use Rattle.core_machine.specs.declared.seat.register.Register.TheVariants as registers
 use Rattle.core_machine.specs.declared.step.Step.{Step}

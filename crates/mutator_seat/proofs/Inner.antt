@@ -16,7 +16,7 @@ use Rattle.heap_model.specs.graph.Growth.{after_entry, graph_after}
 use Rattle.core_machine.specs.calls.InnerStage.{IsInnerOver, OwnInnerStage}
 use Rattle.core_machine.specs.calls.Kept.{Kept, kept_of}
 use Rattle.core_machine.specs.calls.Owes.{owes}
-use Rattle.core_machine.specs.declared.place.Place.TheVariants.{Idle}
+use Rattle.core_machine.specs.declared.point.Point.TheVariants.{Idle}
 use Rattle.core_machine.specs.declared.step.Step.{Step}
 use Rattle.core_machine.specs.machine.Machine.{MayBeginInner, after_inner_begin}
 use Rattle.core_machine.specs.Moves.{Move, due_step, seat_after, seat_after_due}
@@ -25,7 +25,7 @@ use Rattle.core_machine.specs.seat.Looks.{MayMake}
 use Rattle.core_machine.specs.seat.Seat.{Seat}
 use Rattle.core_machine.proofs.moves.{due_step_is_moves}
 use Rattle.core_machine.proofs.moves.Collect.{InnerStands, inner_stands}
-use Rattle.core_machine.proofs.own_stages.Inner.{own_inner_leads, own_inner_begins, placeless_inner_is_over}
+use Rattle.core_machine.proofs.own_stages.Inner.{own_inner_leads, own_inner_begins, idle_inner_is_over}
 use Rattle.core_rule.specs.told.Told.{IsAsTold}
 use Rattle.heap_table.specs.Begun.{next_seat}
 use Rattle.heap_table.specs.Made.{Made, FoundIn, LeadsTo, MakesSteps, IsSound}
@@ -110,7 +110,7 @@ module _ (inside value : SeatHeld) (inner : Inner) (view : inside ≡ value) (re
         enough : (owed spare : ℕ) → owed ≤ 2 → 4 ≤ spare → owed + 2 ≤ spare
         enough owed spare a b = omega arith
 
-    module _ (new : SeatHeld) (steps : (made : List Made) × MakesSteps first new made) (over : new.seat.place ≡ Idle) where
+    module _ (new : SeatHeld) (steps : (made : List Made) × MakesSteps first new made) (over : new.seat.point ≡ Idle) where
       makes_on : MakesSteps (begun_inner value inner) new steps.0
       makes_on = subst (λ (h : SeatHeld). MakesSteps h new steps.0) begun_is steps.1
 
@@ -119,7 +119,7 @@ module _ (inside value : SeatHeld) (inner : Inner) (view : inside ≡ value) (re
           stands.fits makes_on.leads (λ step word found. found) (own_inner_begins (FoundIn steps.0) value.number value.seat inner)
 
       over_then : IsInnerOver (FoundIn steps.0) value.number (kept_of value.seat) (kept_of new.seat) ends.0 inner
-      over_then = placeless_inner_is_over (FoundIn steps.0) value.number inner value.seat new.seat ends.0 ends.1 over
+      over_then = idle_inner_is_over (FoundIn steps.0) value.number inner value.seat new.seat ends.0 ends.1 over
 
       pub inner_call_is_made : MakesInner value new inner
       inner_call_is_made = record {
@@ -136,7 +136,7 @@ module _ (inside value : SeatHeld) (inner : Inner) (view : inside ≡ value) (re
             ∙ inner_quiet (FoundIn steps.0) value.number (kept_of value.seat) (kept_of new.seat) ends.0 inner (own_graph (seat_state value)) over_then;
       }
 
-      pub seat_rests_after_inner : IsSound new → (new.seat.place ≡ Idle → IsAsTold new.heap new.number new.seat) → Rests new
+      pub seat_rests_after_inner : IsSound new → (new.seat.point ≡ Idle → IsAsTold new.heap new.number new.seat) → Rests new
       seat_rests_after_inner sound told =
           let own = inner_own (FoundIn steps.0) value.number (kept_of value.seat) (kept_of new.seat) ends.0 inner over_then in
           record {

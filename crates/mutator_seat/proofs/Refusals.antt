@@ -17,8 +17,8 @@ use Rattle.heap_model.specs.graph.Objects.{target_node}
 use Rattle.core_machine.specs.calls.Kept.{Kept, kept_of}
 use Rattle.core_machine.specs.calls.Reaching.{HasOpened, ReachesField}
 use Rattle.core_machine.specs.calls.Replies.{StandsOn}
-use Rattle.core_machine.specs.declared.place.Place.{Place}
-use Rattle.core_machine.specs.declared.place.Place.TheVariants as places
+use Rattle.core_machine.specs.declared.point.Point.{Point}
+use Rattle.core_machine.specs.declared.point.Point.TheVariants as points
 use Rattle.core_machine.specs.declared.seat.register.Register.{Register}
 use Rattle.core_machine.specs.declared.seat.register.Register.TheVariants as registers
 use Rattle.core_machine.specs.declared.step.Step.{Step}
@@ -37,11 +37,11 @@ use Rattle.mutator_seat.specs.Resting.{seat_state, Rests}
 use Rattle.mutator_seat.proofs.Replied.{reply_is_to_command}
 
 -- at rest each register holds what the seat's own list tells
-not_awaited : (place : Place) (d r : ℕ) → place ≡ places.Idle → ¬ IsAwaited place d r
-not_awaited place d r idle = subst (λ (p : Place). ¬ IsAwaited p d r) (sym idle) (λ none. none)
+not_awaited : (point : Point) (d r : ℕ) → point ≡ points.Idle → ¬ IsAwaited point d r
+not_awaited point d r idle = subst (λ (p : Point). ¬ IsAwaited p d r) (sym idle) (λ none. none)
 
 pub register_told : (held : SeatHeld) (r : ℕ) → Rests held → value_of (register_in held.seat.registers r) ≡ held_value (seat_state held) r
-register_told held r rests = rests.told.registers r (not_awaited held.seat.place (target_of held.seat.command) r rests.between.idle)
+register_told held r rests = rests.told.registers r (not_awaited held.seat.point (target_of held.seat.command) r rests.between.idle)
 
 -- a register has no first fragment where its value is no object
 no_object_at : (register : Register) → register_head register ≡ None → IsNoObject (value_of register)

@@ -5,8 +5,8 @@ use Rattle.heap_model.specs.Heap.{IsHeap}
 use Rattle.heap_model.specs.declared.heap.Heap.{Heap}
 use Rattle.core_machine.specs.Moves.{Move, move_at, due_step}
 use Rattle.core_machine.specs.calls.Owes.{owes, steps_left}
-use Rattle.core_machine.specs.declared.place.Place.{Place}
-use Rattle.core_machine.specs.declared.place.Place.TheVariants as places
+use Rattle.core_machine.specs.declared.point.Point.{Point}
+use Rattle.core_machine.specs.declared.point.Point.TheVariants as points
 use Rattle.core_machine.specs.declared.step.Step.{Step}
 use Rattle.core_machine.specs.seat.Fits.{Fits}
 use Rattle.core_machine.specs.seat.Seat.{Seat}
@@ -51,14 +51,14 @@ while_running_after_step first now new step found while due stepped told =
     )
 
 -- once none is due no call is in flight
-idle_at : (heap : Heap) (number : ℕ) (seat : Seat) (place : Place) → option_map (λ (m : Move). m.step) (move_at heap number seat place) ≡ None → place ≡ places.Idle
-idle_at heap number seat places.Idle e = refl
-idle_at heap number seat (places.Making place) e = cc
-idle_at heap number seat places.Local e = cc
-idle_at heap number seat (places.Access place) e = cc
-idle_at heap number seat (places.Polling place) e = cc
-idle_at heap number seat (places.Collecting place) e = cc
-idle_at heap number seat (places.Leaving place) e = cc
+idle_at : (heap : Heap) (number : ℕ) (seat : Seat) (point : Point) → option_map (λ (m : Move). m.step) (move_at heap number seat point) ≡ None → point ≡ points.Idle
+idle_at heap number seat points.Idle e = refl
+idle_at heap number seat (points.Making point) e = cc
+idle_at heap number seat points.Local e = cc
+idle_at heap number seat (points.Access point) e = cc
+idle_at heap number seat (points.Polling point) e = cc
+idle_at heap number seat (points.Collecting point) e = cc
+idle_at heap number seat (points.Leaving point) e = cc
 
-pub idle_when_none_due : (held : SeatHeld) (due : Option Step) → due ≡ due_step held.heap held.number held.seat → ((step : Step) → due ≡ Some step → ⊥) → held.seat.place ≡ places.Idle
-idle_when_none_due held due is none = idle_at held.heap held.number held.seat held.seat.place (sym is ∙ no_step_is_due due none)
+pub idle_when_none_due : (held : SeatHeld) (due : Option Step) → due ≡ due_step held.heap held.number held.seat → ((step : Step) → due ≡ Some step → ⊥) → held.seat.point ≡ points.Idle
+idle_when_none_due held due is none = idle_at held.heap held.number held.seat held.seat.point (sym is ∙ no_step_is_due due none)

@@ -8,16 +8,16 @@ use Rattle.heap_model.specs.declared.command.Command.{Command}
 use Rattle.heap_model.specs.declared.command.Command.TheVariants as commands
 use Rattle.heap_model.specs.declared.entry.Entry.{Entry}
 use Rattle.heap_model.specs.declared.heap.Heap.{Heap}
-use Rattle.core_machine.specs.declared.place.Access.{Access}
-use Rattle.core_machine.specs.declared.place.Access.TheVariants as access
-use Rattle.core_machine.specs.declared.place.Making.{Making}
-use Rattle.core_machine.specs.declared.place.Making.TheVariants as making
-use Rattle.core_machine.specs.declared.place.Place.{Place}
-use Rattle.core_machine.specs.declared.place.Place.TheVariants as places
-use Rattle.core_machine.specs.declared.place.Polling.{Polling}
-use Rattle.core_machine.specs.declared.place.Polling.TheVariants as polling
-use Rattle.core_machine.specs.declared.place.Leaving.{Leaving}
-use Rattle.core_machine.specs.declared.place.Leaving.TheVariants as leaving
+use Rattle.core_machine.specs.declared.point.Access.{Access}
+use Rattle.core_machine.specs.declared.point.Access.TheVariants as access
+use Rattle.core_machine.specs.declared.point.Making.{Making}
+use Rattle.core_machine.specs.declared.point.Making.TheVariants as making
+use Rattle.core_machine.specs.declared.point.Point.{Point}
+use Rattle.core_machine.specs.declared.point.Point.TheVariants as points
+use Rattle.core_machine.specs.declared.point.Polling.{Polling}
+use Rattle.core_machine.specs.declared.point.Polling.TheVariants as polling
+use Rattle.core_machine.specs.declared.point.Leaving.{Leaving}
+use Rattle.core_machine.specs.declared.point.Leaving.TheVariants as leaving
 use Rattle.core_machine.specs.declared.seat.register.Register.{Register}
 use Rattle.core_machine.specs.declared.step.Step.{Step}
 use Rattle.core_machine.specs.Moves.{Move, move_at, next_move, bearing_move, is_last_birth, refusal_step}
@@ -65,10 +65,10 @@ module _ (heap : Heap) (number : ℕ) (old : Seat) where
   ]
 
   module _ (tells : Step → ℕ → Type 0) (seat : Seat) (told : List Entry) (found : ℕ) (mine : seat.mine ≡ old.mine ++ told) where
-    abbrev PlaceGoesOn : Place → Type 0
-    PlaceGoesOn place = StageAt tells heap number (kept_of old) seat told place → IfSome (move_at heap number seat place) (GoesOn seat found)
+    abbrev PointGoesOn : Point → Type 0
+    PointGoesOn point = StageAt tells heap number (kept_of old) seat told point → IfSome (move_at heap number seat point) (GoesOn seat found)
 
-    making_since : (place : Making) → PlaceGoesOn (places.Making place)
+    making_since : (point : Making) → PointGoesOn (points.Making point)
     making_since making.Granting stage = λ t. t
     making_since making.Withdrawing stage = λ t. t
     making_since making.Gathering stage = λ t. t
@@ -79,7 +79,7 @@ module _ (heap : Heap) (number : ℕ) (old : Seat) where
     making_since making.Storing stage = λ t. t
     making_since making.Bearing stage = born_since seat found
 
-    access_since : (place : Access) → PlaceGoesOn (places.Access place)
+    access_since : (point : Access) → PointGoesOn (points.Access point)
     access_since access.LoadingMeta stage = meta_since seat told seat.reached found stage.0 mine
     access_since access.Walking stage = meta_since seat told seat.reached found stage.0 mine
     access_since access.LoadingSpot stage = λ t. t
@@ -91,23 +91,23 @@ module _ (heap : Heap) (number : ℕ) (old : Seat) where
     access_since access.ShadingNew stage = λ t. t
     access_since access.Swapping stage = λ t. t
 
-    polling_since : (place : Polling) → PlaceGoesOn (places.Polling place)
+    polling_since : (point : Polling) → PointGoesOn (points.Polling point)
     polling_since polling.Asking stage = phase_since seat found (ap (λ (k : Kept). k.answered) stage.1.kept_stays)
     polling_since polling.Shading stage = λ t. t
     polling_since polling.Answering stage = λ t. t
 
-    leaving_since : (place : Leaving) → PlaceGoesOn (places.Leaving place)
+    leaving_since : (point : Leaving) → PointGoesOn (points.Leaving point)
     leaving_since leaving.Emptying stage = λ t. t
     leaving_since leaving.Parting stage = λ t. t
 
-    since_at : (place : Place) → PlaceGoesOn place
-    since_at places.Idle stage = tt
-    since_at (places.Making place) stage = making_since place stage
-    since_at places.Local stage = phase_since seat found (ap (λ (k : Kept). k.answered) stage.kept_stays)
-    since_at (places.Access place) stage = access_since place stage
-    since_at (places.Polling place) stage = polling_since place stage
-    since_at (places.Collecting place) stage = absurd stage
-    since_at (places.Leaving place) stage = leaving_since place stage
+    since_at : (point : Point) → PointGoesOn point
+    since_at points.Idle stage = tt
+    since_at (points.Making point) stage = making_since point stage
+    since_at points.Local stage = phase_since seat found (ap (λ (k : Kept). k.answered) stage.kept_stays)
+    since_at (points.Access point) stage = access_since point stage
+    since_at (points.Polling point) stage = polling_since point stage
+    since_at (points.Collecting point) stage = absurd stage
+    since_at (points.Leaving point) stage = leaving_since point stage
 
   due_since : (seat : Seat) (found : ℕ) (move : Option Move) (step : Step) → option_map (λ (m : Move). m.step) move ≡ Some step → IfSome move (GoesOn seat found)
       → IfSome (option_map (λ (m : Move). m.step) move) (λ (s : Step). TellsWord heap number seat s found) → TellsWord heap number old step found
@@ -122,7 +122,7 @@ module _ (heap : Heap) (number : ℕ) (old : Seat) where
       ([], subst (λ (t : List Entry). OwnStage tells heap number command old new t) (sym (append-nil told)) (subst (λ (s : Seat). OwnStage tells heap number command old s told) (sym leads) stage))
   stage_stands_since tells command limits few (m ∷ made) seat new told fits leads tell stage =
       let word : TellsWord heap number old m.step m.found =
-      due_since seat m.found (next_move heap number seat) m.step leads.0 (since_at tells seat told m.found stage.mine seat.place stage.stage) leads.1.tells.word in
+      due_since seat m.found (next_move heap number seat) m.step leads.0 (since_at tells seat told m.found stage.mine seat.point stage.stage) leads.1.tells.word in
       let on = stage_stands_after_step heap number seat limits few fits tells command old told m.step m.found leads.0 (tell m.step m.found (found_in_first_step made m) word) stage in
       let rest = stage_stands_since tells command limits few made (next_seat heap number seat m.found) new (told ++ on.0) leads.1.fits leads.2
       (λ step word there. tell step word (found_in_longer_steps made m step word there)) on.1 in

@@ -4,7 +4,7 @@ use Rattle.heap_model.specs.calls.SeatCalls.{IsReady}
 use Rattle.heap_model.specs.declared.command.Command.{Command}
 use Rattle.heap_model.specs.declared.reply.Reply.{Reply}
 use Rattle.core_machine.specs.calls.Owes.{owes}
-use Rattle.core_machine.specs.declared.place.Place.TheVariants.{Idle}
+use Rattle.core_machine.specs.declared.point.Point.TheVariants.{Idle}
 use Rattle.core_machine.specs.machine.Calls.{last_reply_of}
 use Rattle.core_machine.specs.machine.Machine.{MayBegin}
 use Rattle.core_machine.specs.seat.Commands.{IsServed}
@@ -37,7 +37,7 @@ module _ (inside value : SeatHeld) (command : Command) (view : inside ≡ value)
     pub first_has_room : owes first.seat + 2 ≤ first.spare
     first_has_room = begun_has_room value command rested may first begun_is ready.room
 
-    module _ (new : SeatHeld) (steps : (made : List Made) × MakesSteps first new made) (over : new.seat.place ≡ Idle) where
+    module _ (new : SeatHeld) (steps : (made : List Made) × MakesSteps first new made) (over : new.seat.point ≡ Idle) where
       makes : MakesSteps (begun value command) new steps.0
       makes = subst (λ (h : SeatHeld). MakesSteps h new steps.0) begun_is steps.1
 
@@ -48,5 +48,5 @@ module _ (inside value : SeatHeld) (command : Command) (view : inside ≡ value)
         pub whole_call_is_made : MakesCall value new command reply
         whole_call_is_made = replied_call_is_made value command rested may new steps.0 makes over reply last
 
-        pub seat_rests_then : IsSound new → (new.seat.place ≡ Idle → IsAsTold new.heap new.number new.seat) → Rests new
+        pub seat_rests_then : IsSound new → (new.seat.point ≡ Idle → IsAsTold new.heap new.number new.seat) → Rests new
         seat_rests_then sound told = seat_rests_after_call value new command reply may whole_call_is_made sound (told over)

@@ -9,7 +9,7 @@ use Rattle.heap_model.specs.declared.reply.Reply.{Reply}
 use Rattle.heap_model.specs.declared.reply.Reply.TheVariants as replies
 use Rattle.core_machine.specs.calls.Kept.{kept_of}
 use Rattle.core_machine.specs.calls.Replies.{StandsOn}
-use Rattle.core_machine.specs.declared.place.Place.TheVariants.{Idle}
+use Rattle.core_machine.specs.declared.point.Point.TheVariants.{Idle}
 use Rattle.core_machine.specs.declared.step.SpineStep.TheVariants.{BudgetAdd}
 use Rattle.core_machine.specs.declared.step.Step.{Step}
 use Rattle.core_machine.specs.declared.step.Step.TheVariants.{PollLoad, Spine}
@@ -49,7 +49,7 @@ pub record MakesCall (old new : SeatHeld) (command : Command) (reply : Reply) : 
   pub rested : Rests old
   pub made : List Made
   pub makes : MakesSteps (begun old command) new made
-  pub over : new.seat.place ≡ Idle
+  pub over : new.seat.point ≡ Idle
   pub first : List Entry
   pub told : new.seat.mine ≡ old.seat.mine ++ (first ++ Said old.number command reply ∷ [])
   pub beside : AllByRecursion (IsBeside old.number) first

@@ -8,7 +8,7 @@ use Rattle.heap_model.specs.declared.entry.Entry.{Entry}
 use Rattle.heap_model.specs.declared.entry.Entry.TheVariants.{Answers}
 use Rattle.core_machine.specs.calls.InnerStage.{IsInnerOver}
 use Rattle.core_machine.specs.calls.Kept.{kept_of}
-use Rattle.core_machine.specs.declared.place.Place.TheVariants.{Idle}
+use Rattle.core_machine.specs.declared.point.Point.TheVariants.{Idle}
 use Rattle.core_machine.specs.declared.step.Step.TheVariants.{PollLoad, Turning}
 use Rattle.core_machine.specs.declared.step.TurningStep.TheVariants.{LookLoad}
 use Rattle.core_machine.specs.machine.Machine.{after_inner_begin}
@@ -30,7 +30,7 @@ pub record MakesInner (old new : SeatHeld) (inner : Inner) : Type 0 where
   pub rested : Rests old
   pub made : List Made
   pub makes : MakesSteps (begun_inner old inner) new made
-  pub over : new.seat.place ≡ Idle
+  pub over : new.seat.point ≡ Idle
   pub told : List Entry
   pub mine : new.seat.mine ≡ old.seat.mine ++ told
   pub comes : IsInnerOver (FoundIn made) old.number (kept_of old.seat) (kept_of new.seat) told inner

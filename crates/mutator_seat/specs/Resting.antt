@@ -3,7 +3,7 @@ use Rattle.std.specs.Prelude.{◌≡◌, ◌<◌, All}
 use Rattle.heap_model.specs.Limits.{stamp_limit}
 use Rattle.heap_model.specs.calls.SeatLaws.{IsOwn}
 use Rattle.heap_model.specs.calls.SeatState.{SeatState}
-use Rattle.core_machine.specs.declared.place.Place.TheVariants.{Idle}
+use Rattle.core_machine.specs.declared.point.Point.TheVariants.{Idle}
 use Rattle.core_rule.specs.told.Told.{IsAsTold}
 use Rattle.heap_table.specs.Made.{IsSound}
 use Rattle.heap_table.specs.SeatHeld.{SeatHeld}
@@ -18,7 +18,7 @@ MakesRoom old new = new ≡ record old { spare = new.spare }
 
 -- no call is in flight, each entry of the seat is its own, and it has done fewer sets than there are stamps: so it is with each seat of a heap that opens
 pub record IsBetweenCalls (held : SeatHeld) : Type 0 where
-  pub idle : held.seat.place ≡ Idle
+  pub idle : held.seat.point ≡ Idle
   pub own : All (IsOwn held.number) held.seat.mine
   pub stamps : held.seat.sets < stamp_limit
 

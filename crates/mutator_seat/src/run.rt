@@ -1,6 +1,6 @@
 ghost use Rattle.std.specs.Prelude.{◌≡◌, ◌+◌, ◌≤◌, List};
 ghost use Rattle.core_machine.specs.calls.Owes.{owes};
-ghost use Rattle.core_machine.specs.declared.place.Place.TheVariants.{Idle};
+ghost use Rattle.core_machine.specs.declared.point.Point.TheVariants.{Idle};
 ghost use Rattle.core_machine.specs.machine.Calls.{last_reply_of};
 ghost use Rattle.heap_table.specs.Made.{Made, MakesSteps, IsSound};
 
@@ -13,7 +13,7 @@ pub(crate) fn run<L: Entries>(holder: &mut Holder<L>)
     requires sound { IsSound holder.old }
     requires room { owes holder.old.seat + 2 ≤ holder.old.spare }
     ensures steps { (made : List Made) × MakesSteps holder.old holder.new made }
-    ensures over { holder.new.seat.place ≡ Idle }
+    ensures over { holder.new.seat.point ≡ Idle }
 {
     while let Some(step) = holder.due() {
         holder.step(&step);

@@ -4,11 +4,11 @@ use Rattle.std.proofs.lemmas.Bool.Decides.{eqb_tells}
 use Rattle.std.specs.Prelude.{option_map}
 use Rattle.heap_model.specs.declared.heap.Heap.{Heap}
 use Rattle.core_machine.specs.Moves.{Move, move_at, due_step, seat_after, seat_after_due, is_last_birth, bearing_move}
-use Rattle.core_machine.specs.declared.place.Making.TheVariants.{Storing, Bearing}
-use Rattle.core_machine.specs.declared.place.Place.{Place}
-use Rattle.core_machine.specs.declared.place.Place.TheVariants as places
+use Rattle.core_machine.specs.declared.point.Making.TheVariants.{Storing, Bearing}
+use Rattle.core_machine.specs.declared.point.Point.{Point}
+use Rattle.core_machine.specs.declared.point.Point.TheVariants as points
 use Rattle.core_machine.specs.declared.step.Step.{Step}
-use Rattle.core_machine.specs.seat.Making.{store_place}
+use Rattle.core_machine.specs.seat.Making.{store_point}
 use Rattle.core_machine.specs.seat.Seat.{Seat}
 use Rattle.core_machine.specs.calls.Owes.{owes, owes_at, steps_left}
 use Rattle.core_machine.proofs.table_lemmas.Bits.{true_or_false}
@@ -19,64 +19,64 @@ use Rattle.heap_table.proofs.MadeSteps.{makes_no_steps, step_leaves_fewer, step_
 use Rattle.object_chain.specs.Bearing.{BeginsBearing}
 use Rattle.object_chain.specs.Due.{due_of_bearing}
 
--- the places of stores and births, and that behind them
-abbrev pub StandsBearing : Place → Type 0
-StandsBearing (places.Making Storing) = Unit {0}
-StandsBearing (places.Making Bearing) = Unit {0}
-StandsBearing places.Idle = Unit {0}
+-- the points of stores and births, and that behind them
+abbrev pub StandsBearing : Point → Type 0
+StandsBearing (points.Making Storing) = Unit {0}
+StandsBearing (points.Making Bearing) = Unit {0}
+StandsBearing points.Idle = Unit {0}
 StandsBearing _ = ⊥
 
 -- while the record is stored and born: no more entries are added than were owed
 pub record WhileBearing (first now : SeatHeld) : Type 0 where
   pub steps : (made : List Made) × MakesSteps first now made
-  pub stands : StandsBearing now.seat.place
+  pub stands : StandsBearing now.seat.point
   pub reserve_stays : now.seat.reserve ≡ first.seat.reserve
   pub paid : owes now.seat + length now.seat.mine ≤ 1 + length first.seat.mine
   pub room : owes now.seat + 2 ≤ now.spare
 
 pub while_bearing_at_begin : (held : SeatHeld) (fragments : List ℕ) (fields d : ℕ) → BeginsBearing held fragments fields d → 3 ≤ held.spare → WhileBearing held held
 while_bearing_at_begin held fragments fields d begins room =
-    let owed : owes held.seat ≡ 1 = ap (owes_at held.seat) begins.place_is in
+    let owed : owes held.seat ≡ 1 = ap (owes_at held.seat) begins.point_is in
     record {
       steps = ([], makes_no_steps held);
-      stands = subst StandsBearing (sym begins.place_is) tt;
+      stands = subst StandsBearing (sym begins.point_is) tt;
       reserve_stays = refl;
       paid = omega (arith, owed);
       room = omega (arith, owed, room);
     }
 
-of_bearing : (place : Place) (due : Option Step) (step : Step) → due_of_bearing place due ≡ Some step → due ≡ Some step
-of_bearing (places.Making Storing) due step e = e
-of_bearing (places.Making Bearing) due step e = e
+of_bearing : (point : Point) (due : Option Step) (step : Step) → due_of_bearing point due ≡ Some step → due ≡ Some step
+of_bearing (points.Making Storing) due step e = e
+of_bearing (points.Making Bearing) due step e = e
 of_bearing _ due step e = cc
 
--- each of these steps leads to such a place
-stands_on : (heap : Heap) (number : ℕ) (seat : Seat) (found : ℕ) (place : Place) (due : Option Step) (step : Step) → seat.place ≡ place → due_of_bearing place due ≡ Some step
-    → StandsBearing (seat_after_due seat (move_at heap number seat place) found).place
-stands_on heap number seat found (places.Making Storing) due step is e =
-    elim (eqb_tells (seat.stored + 1) (4 * length seat.body)) as (λ _. StandsBearing (places.Making (store_place (seat.stored + 1) seat.body))) [ inl all ↦ rw all.0 tt | inr left ↦ rw left.0 tt ]
-stands_on heap number seat found (places.Making Bearing) due step is e =
-    elim (true_or_false (is_last_birth seat)) as (λ _. StandsBearing (seat_after (bearing_move number seat) found).place) [
+-- each of these steps leads to such a point
+stands_on : (heap : Heap) (number : ℕ) (seat : Seat) (found : ℕ) (point : Point) (due : Option Step) (step : Step) → seat.point ≡ point → due_of_bearing point due ≡ Some step
+    → StandsBearing (seat_after_due seat (move_at heap number seat point) found).point
+stands_on heap number seat found (points.Making Storing) due step is e =
+    elim (eqb_tells (seat.stored + 1) (4 * length seat.body)) as (λ _. StandsBearing (points.Making (store_point (seat.stored + 1) seat.body))) [ inl all ↦ rw all.0 tt | inr left ↦ rw left.0 tt ]
+stands_on heap number seat found (points.Making Bearing) due step is e =
+    elim (true_or_false (is_last_birth seat)) as (λ _. StandsBearing (seat_after (bearing_move number seat) found).point) [
       | inl last ↦ rw last tt
       | inr more ↦ rw more (subst StandsBearing (sym is) tt)
     ]
 stands_on heap number seat found _ due step is e = cc
 
-keeps_on : (heap : Heap) (number : ℕ) (seat : Seat) (found : ℕ) (place : Place) (due : Option Step) (step : Step) → due_of_bearing place due ≡ Some step
-    → (seat_after_due seat (move_at heap number seat place) found).reserve ≡ seat.reserve
-keeps_on heap number seat found (places.Making Storing) due step e = refl
-keeps_on heap number seat found (places.Making Bearing) due step e =
+keeps_on : (heap : Heap) (number : ℕ) (seat : Seat) (found : ℕ) (point : Point) (due : Option Step) (step : Step) → due_of_bearing point due ≡ Some step
+    → (seat_after_due seat (move_at heap number seat point) found).reserve ≡ seat.reserve
+keeps_on heap number seat found (points.Making Storing) due step e = refl
+keeps_on heap number seat found (points.Making Bearing) due step e =
     elim (true_or_false (is_last_birth seat)) as (λ _. (seat_after (bearing_move number seat) found).reserve ≡ seat.reserve) [ inl last ↦ rw last refl | inr more ↦ rw more refl ]
 keeps_on heap number seat found _ due step e = cc
 
-pub while_bearing_after_step : (first now new : SeatHeld) (step : Step) (found : ℕ) → IsSound now → WhileBearing first now → due_of_bearing now.seat.place (due_step now.heap now.number now.seat) ≡ Some step
+pub while_bearing_after_step : (first now new : SeatHeld) (step : Step) (found : ℕ) → IsSound now → WhileBearing first now → due_of_bearing now.seat.point (due_step now.heap now.number now.seat) ≡ Some step
     → IsStepped now new found → ToldAtStep now.heap now.number now.seat found → WhileBearing first new × (steps_left new.heap new.seat < steps_left now.heap now.seat)
 while_bearing_after_step first now new step found sound while is stepped told =
-    let due = of_bearing now.seat.place (due_step now.heap now.number now.seat) step is in (
+    let due = of_bearing now.seat.point (due_step now.heap now.number now.seat) step is in (
       record {
         steps = step_makes_one_more first now new step found sound due stepped told while.steps;
-        stands = subst (λ (s : Seat). StandsBearing s.place) (sym stepped.seat_is) (stands_on now.heap now.number now.seat found now.seat.place (due_step now.heap now.number now.seat) step refl is);
-        reserve_stays = ap (λ (s : Seat). s.reserve) stepped.seat_is ∙ keeps_on now.heap now.number now.seat found now.seat.place (due_step now.heap now.number now.seat) step is ∙ while.reserve_stays;
+        stands = subst (λ (s : Seat). StandsBearing s.point) (sym stepped.seat_is) (stands_on now.heap now.number now.seat found now.seat.point (due_step now.heap now.number now.seat) step refl is);
+        reserve_stays = ap (λ (s : Seat). s.reserve) stepped.seat_is ∙ keeps_on now.heap now.number now.seat found now.seat.point (due_step now.heap now.number now.seat) step is ∙ while.reserve_stays;
         paid = step_owes_within_most first now new step found sound due stepped told (1 + length first.seat.mine) while.paid;
         room = step_leaves_room first now new step found sound due stepped told while.room;
       },
@@ -84,19 +84,19 @@ while_bearing_after_step first now new step found sound while is stepped told =
     )
 
 -- once none is due the call is over
-pub bearing_over_is_idle : (first held : SeatHeld) → WhileBearing first held → due_of_bearing held.seat.place (due_step held.heap held.number held.seat) ≡ None → held.seat.place ≡ places.Idle
-bearing_over_is_idle first held while none = over held.seat.place refl while.stands
+pub bearing_over_is_idle : (first held : SeatHeld) → WhileBearing first held → due_of_bearing held.seat.point (due_step held.heap held.number held.seat) ≡ None → held.seat.point ≡ points.Idle
+bearing_over_is_idle first held while none = over held.seat.point refl while.stands
   where
     some_due : {step : Step} → due_step held.heap held.number held.seat ≡ None → due_step held.heap held.number held.seat ≡ Some step → ⊥
     some_due a b = cc
 
-    is_due : (place : Place) → held.seat.place ≡ place → due_step held.heap held.number held.seat ≡ option_map (λ (m : Move). m.step) (move_at held.heap held.number held.seat place)
-    is_due place is = ap (λ (p : Place). option_map (λ (m : Move). m.step) (move_at held.heap held.number held.seat p)) is
+    is_due : (point : Point) → held.seat.point ≡ point → due_step held.heap held.number held.seat ≡ option_map (λ (m : Move). m.step) (move_at held.heap held.number held.seat point)
+    is_due point is = ap (λ (p : Point). option_map (λ (m : Move). m.step) (move_at held.heap held.number held.seat p)) is
 
-    over : (place : Place) → held.seat.place ≡ place → StandsBearing place → place ≡ places.Idle
-    over (places.Making Storing) is stands = absurd (some_due (ap (λ (p : Place). due_of_bearing p (due_step held.heap held.number held.seat)) (sym is) ∙ none) (is_due (places.Making Storing) is))
-    over (places.Making Bearing) is stands = absurd (some_due (ap (λ (p : Place). due_of_bearing p (due_step held.heap held.number held.seat)) (sym is) ∙ none) (is_due (places.Making Bearing) is))
-    over places.Idle is stands = refl
+    over : (point : Point) → held.seat.point ≡ point → StandsBearing point → point ≡ points.Idle
+    over (points.Making Storing) is stands = absurd (some_due (ap (λ (p : Point). due_of_bearing p (due_step held.heap held.number held.seat)) (sym is) ∙ none) (is_due (points.Making Storing) is))
+    over (points.Making Bearing) is stands = absurd (some_due (ap (λ (p : Point). due_of_bearing p (due_step held.heap held.number held.seat)) (sym is) ∙ none) (is_due (points.Making Bearing) is))
+    over points.Idle is stands = refl
     over _ is stands = absurd stands
 
 -- and has added one entry at most

@@ -13,11 +13,11 @@ use Rattle.core_machine.specs.calls.Kept.{Kept, kept_of}
 use Rattle.core_machine.specs.calls.Making.{name_after, HasStored}
 use Rattle.core_machine.specs.calls.OwnStage.{StageAt}
 use Rattle.core_machine.specs.calls.Replies.{StandsOn, IsMade}
-use Rattle.core_machine.specs.declared.place.Making.TheVariants.{Storing}
-use Rattle.core_machine.specs.declared.place.Place.TheVariants as places
+use Rattle.core_machine.specs.declared.point.Making.TheVariants.{Storing}
+use Rattle.core_machine.specs.declared.point.Point.TheVariants as points
 use Rattle.core_machine.specs.declared.step.Step.{Step}
 use Rattle.core_machine.specs.seat.Commands.{IsArrayCall}
-use Rattle.core_machine.specs.seat.Fits.{FitsPlace}
+use Rattle.core_machine.specs.seat.Fits.{FitsPoint}
 use Rattle.core_machine.specs.seat.Seat.{Seat, no_spot}
 use Rattle.heap_table.specs.Made.{Made, FoundIn, MakesSteps, IsSound}
 use Rattle.heap_table.specs.SeatHeld.{SeatHeld}
@@ -44,21 +44,21 @@ made_of tells heap number d fields before kept first (replies.Full need found) e
 made_of tells heap number d fields before kept first (replies.SpineFull need used) enough stands = absurd stands.an_array
 
 module _ (made : List Made) (old new : SeatHeld) (fragments : List ℕ) (fields d : ℕ) (begins : BeginsBearing old fragments fields d) (sound : IsSound old) (makes : MakesSteps old new made)
-    (over : new.seat.place ≡ places.Idle) where
+    (over : new.seat.point ≡ points.Idle) where
   abbrev tells : Step → ℕ → Type 0
   tells = FoundIn made
 
   abbrev before : Seat
   before = brought old.seat
 
-  fits_there : FitsPlace old.heap old.seat (places.Making Storing)
-  fits_there = subst (FitsPlace old.heap old.seat) begins.place_is sound.fits.at_place
+  fits_there : FitsPoint old.heap old.seat (points.Making Storing)
+  fits_there = subst (FitsPoint old.heap old.seat) begins.point_is sound.fits.at_point
 
   no_array : IsArrayCall old.seat.command → ⊥
   no_array an_array = subst IsArrayCall begins.command_is an_array
 
-  begins_so : StageAt tells old.heap old.number (kept_of before) old.seat [] old.seat.place
-  begins_so = subst (StageAt tells old.heap old.number (kept_of before) old.seat []) (sym begins.place_is)
+  begins_so : StageAt tells old.heap old.number (kept_of before) old.seat [] old.seat.point
+  begins_so = subst (StageAt tells old.heap old.number (kept_of before) old.seat []) (sym begins.point_is)
       (brought_has_object tells old sound fits_there.0.whole (λ an_array. absurd (no_array an_array)), λ an_array. absurd (no_array an_array), λ k below. absurd (omega (arith, below, begins.none_stored)))
 
   was : WasAnswered tells old new (New d fields)

@@ -1,8 +1,8 @@
 -- Where a call has come to its field, the field of its object stands by some book.
 use Rattle.std.proofs.Common.{◌≡◌, ℕ, Some, refl, sym, ap, ◌∙◌, subst}
-use Rattle.core_machine.specs.declared.place.Access.TheVariants.{LoadingMeta, Getting, LoadingOld, Swapping}
-use Rattle.core_machine.specs.declared.place.Place.{Place}
-use Rattle.core_machine.specs.declared.place.Place.TheVariants as places
+use Rattle.core_machine.specs.declared.point.Access.TheVariants.{LoadingMeta, Getting, LoadingOld, Swapping}
+use Rattle.core_machine.specs.declared.point.Point.{Point}
+use Rattle.core_machine.specs.declared.point.Point.TheVariants as points
 use Rattle.core_machine.specs.machine.Machine.{State, seat_at}
 use Rattle.core_machine.specs.seat.Commands.{object_of, field_of}
 use Rattle.core_machine.specs.seat.Registers.{register_in, register_head}
@@ -26,7 +26,7 @@ on_head : (heap : Heap) (book : Book) (number : ℕ) (seat : Seat) (object row :
 on_head heap book number seat object row on = ap register_head on.holds
 
 -- where the meta of an object is loaded, that is the object that the register holds
-pub loaded_meta_is_heads : (heap : Heap) (number : ℕ) (seat : Seat) (found : ℕ) → seat.place ≡ places.Access LoadingMeta → ToldAtStep heap number seat found → HoldsHead seat seat.reached
+pub loaded_meta_is_heads : (heap : Heap) (number : ℕ) (seat : Seat) (found : ℕ) → seat.point ≡ points.Access LoadingMeta → ToldAtStep heap number seat found → HoldsHead seat seat.reached
 loaded_meta_is_heads heap number seat found loading told =
     let reached : ReachesInBook heap number seat found LoadingMeta = subst (WhileAccess (ReachesInBook heap number seat found)) loading told.tells.reached in
     let first = reached.there.reaches in
@@ -47,12 +47,12 @@ module _ (held : SeatHeld) (head : ℕ) (holds : HoldsHead held.seat head) where
     part_is = refl;
   }
 
-  at_place : (place : Place) → IsAtField place → WhileAccess (HasReached held.heap held.number held.seat) place → IsPlaceOfField held head (field_of held.seat.command) held.seat.reached held.seat.part
-  at_place (places.Access Getting) at reached = of_book reached.state reached.book reached.stands reached.here reached.reaches
-  at_place (places.Access LoadingOld) at reached = of_book reached.state reached.book reached.stands reached.here reached.reaches
-  at_place (places.Access Swapping) at reached = of_book reached.state reached.book reached.stands reached.here reached.reaches
-  at_place _ at reached = absurd at
+  at_point : (point : Point) → IsAtField point → WhileAccess (HasReached held.heap held.number held.seat) point → IsPlaceOfField held head (field_of held.seat.command) held.seat.reached held.seat.part
+  at_point (points.Access Getting) at reached = of_book reached.state reached.book reached.stands reached.here reached.reaches
+  at_point (points.Access LoadingOld) at reached = of_book reached.state reached.book reached.stands reached.here reached.reaches
+  at_point (points.Access Swapping) at reached = of_book reached.state reached.book reached.stands reached.here reached.reaches
+  at_point _ at reached = absurd at
 
   -- at a field the place that the seat has reached is the field's
-  pub reached_place_is_fields : IsAtField held.seat.place → WhileAccess (HasReached held.heap held.number held.seat) held.seat.place → IsPlaceOfField held head (field_of held.seat.command) held.seat.reached held.seat.part
-  reached_place_is_fields at reached = at_place held.seat.place at reached
+  pub reached_place_is_fields : IsAtField held.seat.point → WhileAccess (HasReached held.heap held.number held.seat) held.seat.point → IsPlaceOfField held head (field_of held.seat.command) held.seat.reached held.seat.part
+  reached_place_is_fields at reached = at_point held.seat.point at reached

@@ -11,13 +11,13 @@ use Rattle.heap_model.specs.declared.heap.Heap.{Heap}
 use Rattle.heap_model.specs.declared.reply.Reply.{Reply}
 use Rattle.core_machine.specs.Moves.{Move, move_at, due_step, seat_after_due}
 use Rattle.core_machine.specs.calls.Reaching.{LeadsTo}
-use Rattle.core_machine.specs.declared.place.Access.TheVariants.{Walking, Getting, LoadingOld, Swapping}
-use Rattle.core_machine.specs.declared.place.Place.{Place}
-use Rattle.core_machine.specs.declared.place.Place.TheVariants as places
+use Rattle.core_machine.specs.declared.point.Access.TheVariants.{Walking, Getting, LoadingOld, Swapping}
+use Rattle.core_machine.specs.declared.point.Point.{Point}
+use Rattle.core_machine.specs.declared.point.Point.TheVariants as points
 use Rattle.core_machine.specs.declared.step.AccessStep.TheVariants.{WalkLoad}
 use Rattle.core_machine.specs.declared.step.Step.{Step}
 use Rattle.core_machine.specs.declared.step.Step.TheVariants as steps
-use Rattle.core_machine.specs.seat.Access.{row_of, part_of, at_access, with_field_place, field_place_of, way_place_of, after_link, after_walk, after_length, after_meta, meta_reply_of}
+use Rattle.core_machine.specs.seat.Access.{row_of, part_of, at_access, with_field_place, field_point_of, way_point_of, after_link, after_walk, after_length, after_meta, meta_reply_of}
 use Rattle.core_machine.specs.seat.AccessMoves.{reply_entries_if}
 use Rattle.core_machine.specs.declared.seat.register.Register.{Register}
 use Rattle.core_machine.specs.seat.Commands.{object_of, field_of}
@@ -25,7 +25,7 @@ use Rattle.core_machine.specs.seat.Registers.{register_in, register_head}
 use Rattle.core_machine.specs.seat.FitsAccess.{NamesField}
 use Rattle.core_machine.specs.seat.Seat.{Seat, with_entries}
 use Rattle.core_machine.specs.calls.Owes.{owes, owes_at, steps_left}
-use Rattle.core_machine.proofs.seat_lemmas.FieldPlaces.{field_place_cases}
+use Rattle.core_machine.proofs.seat_lemmas.FieldPoints.{field_point_cases}
 use Rattle.core_rule.specs.cycle.Flight.{WhileAccess}
 use Rattle.core_rule.specs.told.Reached.{HasReached}
 use Rattle.heap_table.specs.Made.{Made, FoundIn, MakesSteps, IsSound}
@@ -44,32 +44,32 @@ leads_by few more (suc links) head reached on leads =
     (leads.0, leads.1, leads_by few more links head leads.0 on leads.2, on (steps.Access (WalkLoad leads.0)) leads.1 leads.3, leads.4)
 
 -- so far the way has come where so many links are left, or at the field
-abbrev pub WayAt : (Step → ℕ → Type 0) → ℕ → ℕ → ℕ → ℕ → Place → Type 0
-WayAt tells head rows links reached (places.Access Walking) = (passed : ℕ) × (passed + links ≡ rows) × LeadsTo tells passed head reached
-WayAt tells head rows links reached (places.Access Getting) = LeadsTo tells rows head reached
-WayAt tells head rows links reached (places.Access LoadingOld) = LeadsTo tells rows head reached
-WayAt tells head rows links reached (places.Access Swapping) = LeadsTo tells rows head reached
+abbrev pub WayAt : (Step → ℕ → Type 0) → ℕ → ℕ → ℕ → ℕ → Point → Type 0
+WayAt tells head rows links reached (points.Access Walking) = (passed : ℕ) × (passed + links ≡ rows) × LeadsTo tells passed head reached
+WayAt tells head rows links reached (points.Access Getting) = LeadsTo tells rows head reached
+WayAt tells head rows links reached (points.Access LoadingOld) = LeadsTo tells rows head reached
+WayAt tells head rows links reached (points.Access Swapping) = LeadsTo tells rows head reached
 WayAt tells head rows links reached _ = ⊥
 
-way_by : (few more : Step → ℕ → Type 0) (head rows links reached : ℕ) (place : Place) → ((step : Step) (word : ℕ) → few step word → more step word) → WayAt few head rows links reached place → WayAt more head rows links reached place
-way_by few more head rows links reached (places.Access Walking) on way = (way.0, way.1, leads_by few more way.0 head reached on way.2)
-way_by few more head rows links reached (places.Access Getting) on way = leads_by few more rows head reached on way
-way_by few more head rows links reached (places.Access LoadingOld) on way = leads_by few more rows head reached on way
-way_by few more head rows links reached (places.Access Swapping) on way = leads_by few more rows head reached on way
+way_by : (few more : Step → ℕ → Type 0) (head rows links reached : ℕ) (point : Point) → ((step : Step) (word : ℕ) → few step word → more step word) → WayAt few head rows links reached point → WayAt more head rows links reached point
+way_by few more head rows links reached (points.Access Walking) on way = (way.0, way.1, leads_by few more way.0 head reached on way.2)
+way_by few more head rows links reached (points.Access Getting) on way = leads_by few more rows head reached on way
+way_by few more head rows links reached (points.Access LoadingOld) on way = leads_by few more rows head reached on way
+way_by few more head rows links reached (points.Access Swapping) on way = leads_by few more rows head reached on way
 way_by few more head rows links reached _ on way = absurd way
 
 module _ (tells : Step → ℕ → Type 0) (head rows : ℕ) where
   -- the way of this seat
   abbrev pub WayOf : Seat → Type 0
-  WayOf seat = WayAt tells head rows seat.links seat.reached seat.place
+  WayOf seat = WayAt tells head rows seat.links seat.reached seat.point
 
   -- where no link is left it is at the field
-  at_field : (seat : Seat) → LeadsTo tells rows head seat.reached → WayOf (at_access seat (field_place_of seat seat.command))
-  at_field seat leads = field_place_cases (λ a. WayAt tells head rows seat.links seat.reached (places.Access a)) seat seat.command leads (λ on. leads) (λ off. leads)
+  at_field : (seat : Seat) → LeadsTo tells rows head seat.reached → WayOf (at_access seat (field_point_of seat seat.command))
+  at_field seat leads = field_point_cases (λ a. WayAt tells head rows seat.links seat.reached (points.Access a)) seat seat.command leads (λ on. leads) (λ off. leads)
 
-  on_way : (seat : Seat) → (passed : ℕ) → passed + seat.links ≡ rows → LeadsTo tells passed head seat.reached → WayAt tells head rows seat.links seat.reached (places.Access (way_place_of seat))
+  on_way : (seat : Seat) → (passed : ℕ) → passed + seat.links ≡ rows → LeadsTo tells passed head seat.reached → WayAt tells head rows seat.links seat.reached (points.Access (way_point_of seat))
   on_way seat passed all leads =
-      elim (eqb_tells seat.links 0) as (λ _. WayAt tells head rows seat.links seat.reached (places.Access (way_place_of seat))) [
+      elim (eqb_tells seat.links 0) as (λ _. WayAt tells head rows seat.links seat.reached (points.Access (way_point_of seat))) [
         | inl none ↦
             let whole : passed ≡ rows = omega (arith, all, none.1) in
             rw none.0 (at_field seat (subst (λ (n : ℕ). LeadsTo tells n head seat.reached) whole leads))
@@ -114,12 +114,12 @@ pub record WhileWalking (head : ℕ) (meta : Meta) (field : ℕ) (first now : Se
   pub part_is : now.seat.part ≡ part_of field
   pub holds : HoldsHead now.seat head
   pub field_is : field_of now.seat.command ≡ field
-  pub comes : WhileAccess (HasReached now.heap now.number now.seat) now.seat.place
+  pub comes : WhileAccess (HasReached now.heap now.number now.seat) now.seat.point
   pub room : owes now.seat + 2 ≤ now.spare
 
--- each place of it owes one entry
-way_owes : (tells : Step → ℕ → Type 0) (head rows links reached : ℕ) (seat : Seat) (place : Place) → WayAt tells head rows links reached place → owes_at seat place ≡ 1
-way_owes tells head rows links reached seat (places.Access place) way = refl
+-- each point of it owes one entry
+way_owes : (tells : Step → ℕ → Type 0) (head rows links reached : ℕ) (seat : Seat) (point : Point) → WayAt tells head rows links reached point → owes_at seat point ≡ 1
+way_owes tells head rows links reached seat (points.Access point) way = refl
 way_owes tells head rows links reached seat _ way = absurd way
 
 pub while_walking_at_begin : (held : SeatHeld) (head : ℕ) (meta : Meta) (field : ℕ) → BeginsWalking held head meta field → 3 ≤ held.spare → WhileWalking head meta field held held
@@ -129,7 +129,7 @@ while_walking_at_begin held head meta field begins room =
     let tells = HasFound [] head meta in
     let within : field_of before.command < length_of begins.word = omega (arith, begins.within, begins.field_is, begins.tells.length_is) in
     let is : held.seat ≡ with_entries (after_walk start begins.word) [] =
-    begins.goes_on ∙ ap (λ (p : Place). seat_after_due before (move_at held.heap held.number before p) begins.word) begins.loading
+    begins.goes_on ∙ ap (λ (p : Point). seat_after_due before (move_at held.heap held.number before p) begins.word) begins.loading
     ∙ ap (λ (r : Option Reply). with_entries (after_meta before begins.word r) (reply_entries_if held.number before r)) (none_refused before.command begins.word begins.names within)
     ∙ ap (λ (n : Option ℕ). with_entries (after_length before begins.word n) []) begins.tells.a_record in
     let rows : row_of (field_of before.command) ≡ row_of field = ap row_of begins.field_is in
@@ -144,34 +144,34 @@ while_walking_at_begin held head meta field begins room =
       part_is = same.0 ∙ ap part_of begins.field_is;
       holds = holds_on start held.seat head same (subst (HoldsHead before) begins.head_is (loaded_meta_is_heads held.heap held.number before begins.word begins.loading begins.told));
       field_is = ap field_of same.2 ∙ begins.field_is;
-      comes = subst (λ (s : Seat). WhileAccess (HasReached held.heap held.number s) s.place) (sym begins.goes_on) begins.told.comes;
-      room = omega (arith, room, way_owes tells head (row_of field) held.seat.links held.seat.reached held.seat held.seat.place here);
+      comes = subst (λ (s : Seat). WhileAccess (HasReached held.heap held.number s) s.point) (sym begins.goes_on) begins.told.comes;
+      room = omega (arith, room, way_owes tells head (row_of field) held.seat.links held.seat.reached held.seat held.seat.point here);
     }
 
-of_walk : (place : Place) (due : Option Step) (step : Step) → due_of_walk place due ≡ Some step → (place ≡ places.Access Walking) × (due ≡ Some step)
-of_walk (places.Access Walking) due step e = (refl, e)
+of_walk : (point : Point) (due : Option Step) (step : Step) → due_of_walk point due ≡ Some step → (point ≡ points.Access Walking) × (due ≡ Some step)
+of_walk (points.Access Walking) due step e = (refl, e)
 of_walk _ due step e = cc
 
 same_step : {a b : Step} → Some a ≡ Some b → a ≡ b
 same_step e = cc
 
 pub while_walking_after_step : (head : ℕ) (meta : Meta) (field : ℕ) (first now new : SeatHeld) (step : Step) (found : ℕ) → IsSound now → WhileWalking head meta field first now
-    → due_of_walk now.seat.place (due_step now.heap now.number now.seat) ≡ Some step → IsStepped now new found → ToldAtStep now.heap now.number now.seat found
+    → due_of_walk now.seat.point (due_step now.heap now.number now.seat) ≡ Some step → IsStepped now new found → ToldAtStep now.heap now.number now.seat found
     → WhileWalking head meta field first new × (steps_left new.heap new.seat < steps_left now.heap now.seat)
 while_walking_after_step head meta field first now new step found sound while is stepped told =
-    let at = of_walk now.seat.place (due_step now.heap now.number now.seat) step is in
+    let at = of_walk now.seat.point (due_step now.heap now.number now.seat) step is in
     let near = step_nears_end now.heap now.number now.seat sound.limits (omega (arith, sound.within, sound.limits.seats_fit)) sound.fits step found new.seat at.1 stepped.seat_is in
     let made = while.made ++ record { step = step; found = found } ∷ [] in
     let tells = HasFound made head meta in
     let loads : steps.Access (WalkLoad now.seat.reached) ≡ step =
-    same_step (sym (ap (λ (p : Place). option_map (λ (m : Move). m.step) (move_at now.heap now.number now.seat p)) at.0) ∙ at.1) in
+    same_step (sym (ap (λ (p : Point). option_map (λ (m : Move). m.step) (move_at now.heap now.number now.seat p)) at.0) ∙ at.1) in
     let last : FoundIn made step found = Contains-append_right while.made (record { step = step; found = found } ∷ []) (record { step = step; found = found }) (0, omega arith, refl) in
     let tell : tells (steps.Access (WalkLoad now.seat.reached)) found = inl (subst (λ (s : Step). FoundIn made s found) (sym loads) last) in
-    let way : WayAt (HasFound while.made head meta) head (row_of field) now.seat.links now.seat.reached (places.Access Walking) =
+    let way : WayAt (HasFound while.made head meta) head (row_of field) now.seat.links now.seat.reached (points.Access Walking) =
     subst (WayAt (HasFound while.made head meta) head (row_of field) now.seat.links now.seat.reached) at.0 while.way in
-    let wider = way_by (HasFound while.made head meta) tells head (row_of field) now.seat.links now.seat.reached (places.Access Walking) (λ s w. more s w) way in
+    let wider = way_by (HasFound while.made head meta) tells head (row_of field) now.seat.links now.seat.reached (points.Access Walking) (λ s w. more s w) way in
     let next : new.seat ≡ with_entries (after_walk now.seat found) [] =
-    stepped.seat_is ∙ ap (λ (p : Place). seat_after_due now.seat (move_at now.heap now.number now.seat p) found) at.0 in
+    stepped.seat_is ∙ ap (λ (p : Point). seat_after_due now.seat (move_at now.heap now.number now.seat p) found) at.0 in
     let same = stays_by now.seat (after_walk now.seat found) new.seat next (walking_stays now.seat found) in (
       record {
         made = made;
@@ -191,28 +191,28 @@ while_walking_after_step head meta field first now new step found sound while is
     more s w (inr first_) = inr first_
 
 -- once no link is to be loaded the seat is at the field
-module _ (head : ℕ) (meta : Meta) (field : ℕ) (first held : SeatHeld) (while : WhileWalking head meta field first held) (none : due_of_walk held.seat.place (due_step held.heap held.number held.seat) ≡ None) where
+module _ (head : ℕ) (meta : Meta) (field : ℕ) (first held : SeatHeld) (while : WhileWalking head meta field first held) (none : due_of_walk held.seat.point (due_step held.heap held.number held.seat) ≡ None) where
   abbrev tells : Step → ℕ → Type 0
   tells = HasFound while.made head meta
 
   some_due : {step : Step} → due_step held.heap held.number held.seat ≡ None → due_step held.heap held.number held.seat ≡ Some step → ⊥
   some_due a b = cc
 
-  ends_at : (place : Place) → held.seat.place ≡ place → WayAt tells head (row_of field) held.seat.links held.seat.reached place → LeadsTo tells (row_of field) head held.seat.reached × IsAtField place
-  ends_at (places.Access Walking) is way =
-      absurd (some_due (ap (λ (p : Place). due_of_walk p (due_step held.heap held.number held.seat)) (sym is) ∙ none)
-      (ap (λ (p : Place). option_map (λ (m : Move). m.step) (move_at held.heap held.number held.seat p)) is))
-  ends_at (places.Access Getting) is way = (way, tt)
-  ends_at (places.Access LoadingOld) is way = (way, tt)
-  ends_at (places.Access Swapping) is way = (way, tt)
+  ends_at : (point : Point) → held.seat.point ≡ point → WayAt tells head (row_of field) held.seat.links held.seat.reached point → LeadsTo tells (row_of field) head held.seat.reached × IsAtField point
+  ends_at (points.Access Walking) is way =
+      absurd (some_due (ap (λ (p : Point). due_of_walk p (due_step held.heap held.number held.seat)) (sym is) ∙ none)
+      (ap (λ (p : Point). option_map (λ (m : Move). m.step) (move_at held.heap held.number held.seat p)) is))
+  ends_at (points.Access Getting) is way = (way, tt)
+  ends_at (points.Access LoadingOld) is way = (way, tt)
+  ends_at (points.Access Swapping) is way = (way, tt)
   ends_at _ is way = absurd way
 
-  pub walk_leads_to_field : LeadsTo (HasFound while.made head meta) (row_of field) head held.seat.reached × IsAtField held.seat.place
-  walk_leads_to_field = ends_at held.seat.place refl while.way
+  pub walk_leads_to_field : LeadsTo (HasFound while.made head meta) (row_of field) head held.seat.reached × IsAtField held.seat.point
+  walk_leads_to_field = ends_at held.seat.point refl while.way
 
   -- which is the one of its object
   pub walked_place_is_fields : IsPlaceOfField held head field held.seat.reached held.seat.part
   walked_place_is_fields = subst (λ (i : ℕ). IsPlaceOfField held head i held.seat.reached held.seat.part) while.field_is (reached_place_is_fields held head while.holds walk_leads_to_field.1 while.comes)
 
   pub walk_leaves_room : 3 ≤ held.spare
-  walk_leaves_room = omega (arith, while.room, way_owes tells head (row_of field) held.seat.links held.seat.reached held.seat held.seat.place while.way)
+  walk_leaves_room = omega (arith, while.room, way_owes tells head (row_of field) held.seat.links held.seat.reached held.seat held.seat.point while.way)

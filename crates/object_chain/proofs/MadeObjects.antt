@@ -16,7 +16,7 @@ use Rattle.core_machine.specs.calls.Kept.{Kept, kept_of, WasMade}
 use Rattle.core_machine.specs.calls.Making.{HasObject, HasBorn}
 use Rattle.core_machine.specs.calls.OwnStage.{StageAt, OwnStage}
 use Rattle.core_machine.specs.calls.Replies.{IsAnswered, IsMade}
-use Rattle.core_machine.specs.declared.place.Place.TheVariants as places
+use Rattle.core_machine.specs.declared.point.Point.TheVariants as points
 use Rattle.core_machine.specs.declared.seat.register.Register.TheVariants.{Object}
 use Rattle.core_machine.specs.declared.step.MakingStep.TheVariants.{LastBirth}
 use Rattle.core_machine.specs.declared.step.Step.{Step}
@@ -76,8 +76,8 @@ pub record WasAnswered (tells : Step → ℕ → Type 0) (old new : SeatHeld) (c
   pub answered : IsAnswered tells old.heap old.number command (kept_of (brought old.seat)) (kept_of new.seat) told
 
 -- so is a call that stands so where it begins, once it is over
-pub begun_call_was_answered : (made : List Made) (tells : Step → ℕ → Type 0) (old new : SeatHeld) (command : Command) → IsSound old → MakesSteps old new made → new.seat.place ≡ places.Idle
-    → ((step : Step) (word : ℕ) → FoundIn made step word → tells step word) → old.seat.command ≡ command → StageAt tells old.heap old.number (kept_of (brought old.seat)) old.seat [] old.seat.place
+pub begun_call_was_answered : (made : List Made) (tells : Step → ℕ → Type 0) (old new : SeatHeld) (command : Command) → IsSound old → MakesSteps old new made → new.seat.point ≡ points.Idle
+    → ((step : Step) (word : ℕ) → FoundIn made step word → tells step word) → old.seat.command ≡ command → StageAt tells old.heap old.number (kept_of (brought old.seat)) old.seat [] old.seat.point
     → WasAnswered tells old new command
 begun_call_was_answered made tells old new command sound makes over here same stage =
     let begins : OwnStage tells old.heap old.number command (brought old.seat) old.seat [] = record { same = same; mine = sym (append-nil old.seat.mine); stage = stage } in
@@ -108,7 +108,7 @@ module _ (tells : Step → ℕ → Type 0) (old new : SeatHeld) (command : Comma
   }
 
   -- the seat holds it
-  pub seat_holds_newborn : (id : Id) → MadeBy old.number old.seat.made ≡ id → new.seat.place ≡ places.Idle → new.seat.reserve ≡ old.seat.reserve → HoldsNewborn old new (target_of command) fragments id
+  pub seat_holds_newborn : (id : Id) → MadeBy old.number old.seat.made ≡ id → new.seat.point ≡ points.Idle → new.seat.reserve ≡ old.seat.reserve → HoldsNewborn old new (target_of command) fragments id
   seat_holds_newborn id is over stays = record {
     id_is = sym is;
     counted = ap (λ (k : Kept). k.made) made_.2.kept_is;

@@ -6,8 +6,8 @@ use Rattle.heap_model.specs.declared.id.Id.{Id}
 use Rattle.heap_model.specs.declared.id.Id.TheVariants.{Made as MadeBy}
 use Rattle.core_machine.specs.calls.Kept.{WasMade}
 use Rattle.core_machine.specs.calls.Making.{HasBorn}
-use Rattle.core_machine.specs.declared.place.Making.TheVariants.{Storing}
-use Rattle.core_machine.specs.declared.place.Place.TheVariants as places
+use Rattle.core_machine.specs.declared.point.Making.TheVariants.{Storing}
+use Rattle.core_machine.specs.declared.point.Point.TheVariants as points
 use Rattle.core_machine.specs.declared.seat.register.Register.TheVariants.{Object}
 use Rattle.core_machine.specs.declared.step.MakingStep.TheVariants.{LastBirth}
 use Rattle.core_machine.specs.declared.step.Step.TheVariants.{Making}
@@ -17,7 +17,7 @@ use Rattle.heap_table.specs.SeatHeld.{SeatHeld}
 
 -- the call in flight makes a record of so many fields for this register, which has these fragments and none of its words yet
 pub record BeginsBearing (held : SeatHeld) (fragments : List ℕ) (fields d : ℕ) : Type 0 where
-  pub place_is : held.seat.place ≡ places.Making Storing
+  pub point_is : held.seat.point ≡ points.Making Storing
   pub command_is : held.seat.command ≡ New d fields
   pub body_is : held.seat.body ≡ fragments
   pub none_stored : held.seat.stored ≡ 0
@@ -37,4 +37,4 @@ pub record HoldsNewborn (old new : SeatHeld) (d : ℕ) (fragments : List ℕ) (i
   pub counted : new.seat.made ≡ old.seat.made + 1
   pub register : new.seat.registers ≡ slice_set old.seat.registers d (Object (slice_index_or fragments 0 0) id)
   pub reserve : new.seat.reserve ≡ old.seat.reserve
-  pub over : new.seat.place ≡ places.Idle
+  pub over : new.seat.point ≡ points.Idle

@@ -3,8 +3,8 @@ use Rattle.std.specs.Prelude.{◌≡◌, ℕ, List, Some}
 use Rattle.heap_words.specs.Loaded.{head_of}
 use Rattle.heap_words.specs.Name.{name_in}
 use Rattle.heap_words.specs.declared.name.Name.{Name}
-use Rattle.core_machine.specs.declared.place.Access.TheVariants.{Naming}
-use Rattle.core_machine.specs.declared.place.Place.TheVariants as places
+use Rattle.core_machine.specs.declared.point.Access.TheVariants.{Naming}
+use Rattle.core_machine.specs.declared.point.Point.TheVariants as points
 use Rattle.core_machine.specs.declared.step.AccessStep.TheVariants.{NameLoad}
 use Rattle.core_machine.specs.declared.step.Step.TheVariants.{Access}
 use Rattle.core_machine.specs.machine.Machine.{State, seat_at}
@@ -17,7 +17,7 @@ use Rattle.heap_table.specs.SeatHeld.{SeatHeld}
 
 -- the get in flight has found a reference to the object with this first fragment, and awaits its name
 pub record BeginsNaming (held : SeatHeld) (head : ℕ) : Type 0 where
-  pub place_is : held.seat.place ≡ places.Access Naming
+  pub point_is : held.seat.point ≡ points.Access Naming
   pub head_is : head_of held.seat.loaded ≡ Some head
 
 -- one of these steps loaded the object's name, which is this one

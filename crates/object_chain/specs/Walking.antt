@@ -2,9 +2,9 @@
 use Rattle.std.specs.Prelude.{◌≡◌, ℕ, ◌<◌, ◌⊎◌, List, None}
 use Rattle.heap_words.specs.Loaded.{link_of, length_of, array_length_of}
 use Rattle.heap_words.specs.declared.meta.Meta.{Meta}
-use Rattle.core_machine.specs.declared.place.Access.TheVariants.{LoadingMeta, Getting, LoadingOld, Swapping}
-use Rattle.core_machine.specs.declared.place.Place.{Place}
-use Rattle.core_machine.specs.declared.place.Place.TheVariants as places
+use Rattle.core_machine.specs.declared.point.Access.TheVariants.{LoadingMeta, Getting, LoadingOld, Swapping}
+use Rattle.core_machine.specs.declared.point.Point.{Point}
+use Rattle.core_machine.specs.declared.point.Point.TheVariants as points
 use Rattle.core_machine.specs.declared.step.AccessStep.TheVariants.{WalkLoad}
 use Rattle.core_machine.specs.declared.step.Step.{Step}
 use Rattle.core_machine.specs.declared.step.Step.TheVariants.{Access}
@@ -26,7 +26,7 @@ pub record TellsMeta (word : ℕ) (meta : Meta) : Type 0 where
 pub record BeginsWalking (held : SeatHeld) (head : ℕ) (meta : Meta) (field : ℕ) : Type 0 where
   pub before : Seat
   pub word : ℕ
-  pub loading : before.place ≡ places.Access LoadingMeta
+  pub loading : before.point ≡ points.Access LoadingMeta
   pub head_is : before.reached ≡ head
   pub names : NamesField before.command
   pub field_is : field_of before.command ≡ field
@@ -40,8 +40,8 @@ abbrev pub HasFound : List Made → ℕ → Meta → Step → ℕ → Type 0
 HasFound made head meta step word = FoundIn made step word ⊎ ((step ≡ Access (WalkLoad head)) × TellsMeta word meta)
 
 -- the seat is at the field: it is about to load it, or to swap its word
-abbrev pub IsAtField : Place → Type 0
-IsAtField (places.Access Getting) = Unit {0}
-IsAtField (places.Access LoadingOld) = Unit {0}
-IsAtField (places.Access Swapping) = Unit {0}
+abbrev pub IsAtField : Point → Type 0
+IsAtField (points.Access Getting) = Unit {0}
+IsAtField (points.Access LoadingOld) = Unit {0}
+IsAtField (points.Access Swapping) = Unit {0}
 IsAtField _ = ⊥

@@ -9,17 +9,17 @@ ghost use Rattle.heap_table.specs.Made.{Made, FoundIn, MakesSteps, BySteps, IsSo
 ghost use Rattle.object_chain.specs.Bearing.{BeginsBearing, IsBorn, HoldsNewborn};
 ghost use Rattle.object_chain.specs.Due.{due_of_bearing as due_at_bearing};
 
-use core_machine::{Entries, Making, Place, Step};
+use core_machine::{Entries, Making, Point, Step};
 use heap_model::Id;
 use heap_table::Holder;
 
 /// The store or the birth that is due, until the object is born.
 fn due_of_bearing<L: Entries>(holder: &Holder<L>) -> Option<Step>
-    ensures due { result ≡ due_at_bearing holder.now.seat.place (due_step holder.now.heap holder.now.number holder.now.seat) }
+    ensures due { result ≡ due_at_bearing holder.now.seat.point (due_step holder.now.heap holder.now.number holder.now.seat) }
     ensures sound { IsSound holder.now }
 {
-    match holder.party().place() {
-        Place::Making(Making::Storing | Making::Bearing) => holder.due(),
+    match holder.party().point() {
+        Point::Making(Making::Storing | Making::Bearing) => holder.due(),
         _ => None,
     }
 }

@@ -1,4 +1,4 @@
-//! A call's part on the shared table: records are stored and born, their fields are reached by links, and objects are named.
+//! Steps of a call on the shared table: records are stored and born, their fields are reached by links, and objects are named.
 #![tactic(auto)]
 
 mod bearing;

@@ -1,5 +1,5 @@
 ghost use Rattle.std.specs.Prelude.{◌≡◌, ◌≤◌, List, slice_set};
-ghost use Rattle.core_machine.specs.declared.place.Place.TheVariants.{Idle};
+ghost use Rattle.core_machine.specs.declared.point.Point.TheVariants.{Idle};
 ghost use Rattle.core_machine.specs.declared.seat.register.Register.TheVariants.{Object};
 ghost use Rattle.core_machine.specs.seat.Commands.{target_of};
 ghost use Rattle.core_machine.specs.table.Decode.{id_of_owner};
@@ -17,7 +17,7 @@ pub fn name_of<L: Entries>(holder: &mut Holder<L>, head: u16) -> Name
     ensures steps { (made : List Made) × MakesSteps holder.old holder.new made × IsNamed made head result }
     ensures held { IsHeldsName holder.old head result }
     ensures register { holder.new.seat.registers ≡ slice_set holder.old.seat.registers (target_of holder.old.seat.command) (Object head (id_of_owner result.owner result.count)) }
-    ensures over { holder.new.seat.place ≡ Idle }
+    ensures over { holder.new.seat.point ≡ Idle }
 {
     let word = holder.step(&Step::Access(AccessStep::NameLoad { head }));
     Name::told(word)

@@ -20,11 +20,11 @@ pub struct Place {
 
 /// The load of a link that is due; none once the field's fragment is reached.
 fn due_of_walk<L: Entries>(holder: &Holder<L>) -> Option<Step>
-    ensures due { result ≡ due_at_walk holder.now.seat.place (due_step holder.now.heap holder.now.number holder.now.seat) }
+    ensures due { result ≡ due_at_walk holder.now.seat.point (due_step holder.now.heap holder.now.number holder.now.seat) }
     ensures sound { IsSound holder.now }
 {
-    match holder.party().place() {
-        core_machine::Place::Access(Access::Walking) => holder.due(),
+    match holder.party().point() {
+        core_machine::Point::Access(Access::Walking) => holder.due(),
         _ => None,
     }
 }
@@ -36,7 +36,7 @@ pub fn walk<L: Entries>(holder: &mut Holder<L>, head: u16, meta: Meta, field: u1
     ensures steps { (made : List Made) × MakesSteps holder.old holder.new made × LeadsTo (HasFound made head meta) (row_of field) head result.fragment }
     ensures part { result.part ≡ part_of field }
     ensures reached { (holder.new.seat.reached ≡ result.fragment) × (holder.new.seat.part ≡ result.part) }
-    ensures past { IsAtField holder.new.seat.place }
+    ensures past { IsAtField holder.new.seat.point }
     ensures field { IsPlaceOfField holder.new head field result.fragment result.part }
     ensures room { 3 ≤ holder.new.spare }
 {

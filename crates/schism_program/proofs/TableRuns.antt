@@ -72,7 +72,7 @@ opened_holders_told_none table heap holders opened = recursion_from_All HasToldN
 module _ (patience : ℕ) (scripts : List (List Command)) (history : List Entry) where
   -- seats that follow one another, had told nothing, and whose lists are their parts of the history, have told their scripts and left
   told_from : (k : ℕ) (olds news : List SeatHeld) → map (λ held. held.number) olds ≡ range_with_len k (length olds) → length news ≡ length olds
-      → ((place : ℕ) (old new : SeatHeld) → slice_get olds place ≡ Some old → slice_get news place ≡ Some new → HasWorked patience old (script_at scripts old.number) new)
+      → ((position : ℕ) (old new : SeatHeld) → slice_get olds position ≡ Some old → slice_get news position ≡ Some new → HasWorked patience old (script_at scripts old.number) new)
       → AllByRecursion HasToldNone olds → map (λ held. held.seat.mine) news ≡ map (λ n. filter (is_of n) history) (range_with_len k (length olds))
       → (n : ℕ) → k ≤ n → n < k + length olds → commands_told n history ≡ script_at scripts n ++ Leave ∷ []
   told_from k [] news numbers many each none parts n from to = absurd (omega (arith, from, to))
@@ -86,7 +86,7 @@ module _ (patience : ℕ) (scripts : List (List Command)) (history : List Entry)
       = own_told k history ∙ ap (commands_told k) (sym mine ∙ part) ∙ subst (λ m. commands_told m one.made.part ≡ script_at scripts m ++ Leave ∷ []) number one.made.answered in
       elim (eqb_tells n k) as (λ _. commands_told n history ≡ script_at scripts n ++ Leave ∷ []) [
         | inl same ↦ subst (λ m. commands_told m history ≡ script_at scripts m ++ Leave ∷ []) (sym same.1) here
-        | inr apart ↦ told_from (k + 1) olds news (cc numbers) (omega (arith, many)) (λ place o w was now. each (suc place) o w was now) none.1 (cc parts) n (omega (arith, from, apart.1)) (omega (arith, to))
+        | inr apart ↦ told_from (k + 1) olds news (cc numbers) (omega (arith, many)) (λ position o w was now. each (suc position) o w was now) none.1 (cc parts) n (omega (arith, from, apart.1)) (omega (arith, to))
       ]
 
 module _ (patience : ℕ) (scripts : List (List Command)) (script : Script) (closed : ClosedTable) (merged : List Entry) (olds news : List SeatHeld)

@@ -10,6 +10,6 @@ abbrev pub state_after_draws : ℕ → ℕ → ℕ
 state_after_draws zero state = state
 state_after_draws (suc n) state = next_state (state_after_draws n state)
 
--- what the draw of this place gives, counted from 1
+-- what the draw of this position gives, counted from 1
 abbrev pub draw : ℕ → ℕ → ℕ
-draw place state = state_after_draws place state / 65536
+draw position state = state_after_draws position state / 65536

@@ -1,7 +1,7 @@
 -- What a call that is over comes to.
 use Rattle.std.proofs.Common.{◌≡◌, ℕ, ◌+◌, ◌-◌, ◌^◌, ◌<◌, ◌≤◌, ◌⊎◌, List, [], ◌∷◌, ◌++◌, length, drop, get_or, Option, Some, None, refl, sym, ap, subst, ◌∙◌, inl, inr, length-append, append_assoc, append-nil, arith}
 use Rattle.std.specs.Prelude.{IsSome, option_and_then, option_map}
-use Rattle.core_machine.proofs.Terms.{Step, Address, Phase, at, InTable, Heap, Command, Entry, Said, Reply, Place, Seat, Move, move_at, next_move, due_step, State, seat_at, Steps}
+use Rattle.core_machine.proofs.Terms.{Step, Address, Phase, at, InTable, Heap, Command, Entry, Said, Reply, Point, Seat, Move, move_at, next_move, due_step, State, seat_at, Steps}
 use Rattle.core_machine.proofs.Terms.{state_after, Leave, IsBeside, IsPhaseNear, PlaysCall, CountsCall, TellsLeave, AnswersNew, AnswersArray, reply_of, last_reply_of}
 use Rattle.core_machine.proofs.Terms.{IsPlaceRefusal, LeavesAll, MachineValue, IsMachine, log_of, recent_of, spare_of, forgotten_of, SpendsRoom, kept_of, tells_nothing, ComesFirst}
 use Rattle.core_machine.proofs.Terms.{IsAnswered, entries_awaited_at, IsRecordCall, IsArrayCall, owes, steps_left}
@@ -10,30 +10,30 @@ use Rattle.std.proofs.lemmas.List.{append_cancel_left, drop-append-le}
 use Rattle.std.proofs.lemmas.Option.{slice_get-get_or}
 use Rattle.std.proofs.Math.Seq.{get_or-append_seam}
 use Rattle.heap_model.specs.calls.SeatCalls.{leave_entries}
-use Rattle.core_machine.specs.declared.place.Place.TheVariants as places
+use Rattle.core_machine.specs.declared.point.Point.TheVariants as points
 use Rattle.core_machine.proofs.call_lemmas.Stages.{Answered, AloneStage}
 use Rattle.core_machine.proofs.own_stages.End.{comes_before, own_answered, call_counts_by_reply, told_is_leave_entries}
 use Rattle.core_machine.proofs.call_lemmas.Calling.{Playing, playing_after_step}
 use Rattle.core_machine.proofs.call_lemmas.CallRoom.{seat_log_is_own_list, step_leaves_room, spends_room_in_turn}
 
 -- a call that has no step due is over
-idle_at : (heap : Heap) (number : ℕ) (seat : Seat) (place : Place) → option_map (λ m. m.step) (move_at heap number seat place) ≡ None → place ≡ places.Idle
-idle_at heap number seat places.Idle none = refl
-idle_at heap number seat (places.Making place) none = cc
-idle_at heap number seat places.Local none = cc
-idle_at heap number seat (places.Access place) none = cc
-idle_at heap number seat (places.Polling place) none = cc
-idle_at heap number seat (places.Collecting place) none = cc
-idle_at heap number seat (places.Leaving place) none = cc
+idle_at : (heap : Heap) (number : ℕ) (seat : Seat) (point : Point) → option_map (λ m. m.step) (move_at heap number seat point) ≡ None → point ≡ points.Idle
+idle_at heap number seat points.Idle none = refl
+idle_at heap number seat (points.Making point) none = cc
+idle_at heap number seat points.Local none = cc
+idle_at heap number seat (points.Access point) none = cc
+idle_at heap number seat (points.Polling point) none = cc
+idle_at heap number seat (points.Collecting point) none = cc
+idle_at heap number seat (points.Leaving point) none = cc
 
-pub placeless_is_idle : (heap : Heap) (number : ℕ) (seat : Seat) → due_step heap number seat ≡ None → seat.place ≡ places.Idle
-placeless_is_idle heap number seat none = idle_at heap number seat seat.place none
+pub stepless_is_idle : (heap : Heap) (number : ℕ) (seat : Seat) → due_step heap number seat ≡ None → seat.point ≡ points.Idle
+stepless_is_idle heap number seat none = idle_at heap number seat seat.point none
 
 -- the call was answered
 pub answered : (heap : Heap) (old now : State) (number : ℕ) (command : Command) (playing : Playing heap old now number command)
     → due_step heap number (seat_at now number) ≡ None → Answered heap old now number command playing.told
 answered heap old now number command playing none =
-    subst (AloneStage heap old now number command playing.told (seat_at now number)) (placeless_is_idle heap number (seat_at now number) none) playing.stage.alone
+    subst (AloneStage heap old now number command playing.told (seat_at now number)) (stepless_is_idle heap number (seat_at now number) none) playing.stage.alone
 
 -- a reply that is told last is the last
 pub last_reply-said : (entries_ : List Entry) (number : ℕ) (command : Command) (reply : Reply) → last_reply_of (entries_ ++ Said number command reply ∷ []) ≡ Some reply
@@ -56,7 +56,7 @@ one_reply number command reply other told before front is also =
 all_mine : (heap : Heap) (old now : State) (number : ℕ) (command : Command) (playing : Playing heap old now number command)
     → due_step heap number (seat_at now number) ≡ None → (seat_at now number).mine ≡ (seat_at old number).mine ++ playing.told
 all_mine heap old now number command playing none =
-    let idle = placeless_is_idle heap number (seat_at now number) none in
+    let idle = stepless_is_idle heap number (seat_at now number) none in
     let mine = playing.under.mine in
     sym (append-nil (seat_at now number).mine) ∙ ap (λ (l : List Entry). (seat_at now number).mine ++ l) (sym (ap (entries_awaited_at heap now.words number (seat_at now number)) idle)) ∙ mine
 
@@ -77,7 +77,7 @@ own_end heap old now number command playing none =
     let same : playing.listed ≡ playing.told = append_cancel_left (seat_at old number).mine playing.listed playing.told (sym own.mine ∙ all_mine heap old now number command playing none) in
     let is : IsAnswered tells_nothing heap number command (kept_of (seat_at old number)) (kept_of (seat_at now number)) playing.told =
     subst (IsAnswered tells_nothing heap number command (kept_of (seat_at old number)) (kept_of (seat_at now number))) same
-    (own_answered tells_nothing heap number command (seat_at old number) (seat_at now number) playing.listed own (placeless_is_idle heap number (seat_at now number) none)) in
+    (own_answered tells_nothing heap number command (seat_at old number) (seat_at now number) playing.listed own (stepless_is_idle heap number (seat_at now number) none)) in
     let reply : is.reply ≡ answer.reply = one_reply number command answer.reply is.reply playing.told answer.before is.first answer.last is.last in
     record {
       first = is.first;
@@ -99,7 +99,7 @@ plays_call heap old now number command playing none =
       steps = playing.under.steps;
       can = playing.under.can;
       ends = playing.under.ends;
-      idle = placeless_is_idle heap number (seat_at now number) none;
+      idle = stepless_is_idle heap number (seat_at now number) none;
       before = own.first;
       shown = playing.under.shows ∙ own.last;
       mine = all_mine heap old now number command playing none ∙ ap (λ (l : List Entry). (seat_at old number).mine ++ l) own.last;

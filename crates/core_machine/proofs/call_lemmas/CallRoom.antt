@@ -20,7 +20,7 @@ seat_log_is_own_list machine number within =
 -- what a move leaves of room and steps, where its entries are the party's new ones
 room_by : (heap : Heap) (now : State) (number : ℕ) (move : Option Move) (step : Step) (seat : Seat) → number < length now.seats
     → option_map (λ m. m.step) move ≡ Some step → seat ≡ seat_at (state_after_due heap now number move) number
-    → IfSome move (MoveStands heap number (seat_at now number) (seat_at now number).place)
+    → IfSome move (MoveStands heap number (seat_at now number) (seat_at now number).point)
     → (steps_left heap seat < steps_left heap (seat_at now number)) × ((added : ℕ) × (owes seat + added ≤ owes (seat_at now number)) × (length seat.mine ≡ length (seat_at now number).mine + added))
 room_by heap now number None step seat within due is stands = cc
 room_by heap now number (Some m) step seat within due is stands =

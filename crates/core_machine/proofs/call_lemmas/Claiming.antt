@@ -7,7 +7,7 @@ use Rattle.std.proofs.lemmas.List.{map-append, append_cancel_right, nil_from_len
 use Rattle.std.proofs.lemmas.List.Elements.{filter-append, All-nil, All-cons, All-head, All-tail}
 use Rattle.std.proofs.lemmas.List.Filters.{length-filter_both}
 use Rattle.std.proofs.lemmas.List.Sums.{sum_by-cons}
-use Rattle.core_machine.proofs.Terms.{Entry, Takes, GivesBack, in_group, out_of_group, part_in, part_out, clear_in, first_group_of}
+use Rattle.core_machine.proofs.Terms.{Entry, Takes, GivesBack, in_group, out_of_group, inside_group, outside_group, clear_in, first_group_of}
 use Rattle.heap_model.specs.declared.id.Id.{Id}
 use Rattle.heap_model.specs.declared.reply.Reply.TheVariants as replies
 use Rattle.heap_model.specs.calls.SeatCalls.{takes_of, gives_of, IsGroupCount, ClaimsBefore}
@@ -16,51 +16,51 @@ use Rattle.core_machine.specs.calls.Claims.{AreGroupsOf, HasTaken, GivesBackAll}
 use Rattle.core_machine.specs.seat.MakingMoves.{takes_some}
 use Rattle.core_machine.proofs.table_lemmas.Clear.{length-clear_among}
 use Rattle.core_machine.proofs.table_lemmas.Owned.{clear_is_of_group}
-use Rattle.core_machine.proofs.call_lemmas.Restoring.{part_of_own_group_is_all, part_of_other_group_is_empty, part_in_stays_without_other}
+use Rattle.core_machine.proofs.call_lemmas.Restoring.{inside_own_group_is_all, inside_other_group_is_empty, inside_group_stays_without_other}
 
 all_groups : (counts hand : List ℕ) → AreGroupsOf counts hand → All IsGroupCount counts
 all_groups [] hand is = All-nil IsGroupCount
-all_groups (count ∷ counts) hand is = All-cons IsGroupCount count counts is.0 (all_groups counts (part_out (first_group_of hand) hand) is.2)
+all_groups (count ∷ counts) hand is = All-cons IsGroupCount count counts is.0 (all_groups counts (outside_group (first_group_of hand) hand) is.2)
 
 pub group_counts_are_length : (counts hand : List ℕ) → AreGroupsOf counts hand → sum counts ≡ length hand
 group_counts_are_length [] hand is = sym (ap length is)
 group_counts_are_length (count ∷ counts) hand is =
     let group = first_group_of hand in
     let both = length-filter_both (in_group group) (out_of_group group) (λ f. refl) hand in
-    omega (arith, sum_by-cons (λ n. n) count counts, group_counts_are_length counts (part_out group hand) is.2, is.1)
+    omega (arith, sum_by-cons (λ n. n) count counts, group_counts_are_length counts (outside_group group hand) is.2, is.1)
 
 -- all fragments of a group are outside of another, and none is outside of it
-out_all : (g k : ℕ) (fragments : List ℕ) → g ≢ k → All (λ f. f / 16 ≡ g) fragments → part_out k fragments ≡ fragments
+out_all : (g k : ℕ) (fragments : List ℕ) → g ≢ k → All (λ f. f / 16 ≡ g) fragments → outside_group k fragments ≡ fragments
 out_all g k [] other each = refl
 out_all g k (f ∷ more) other each =
     rw (ne_eqb (f / 16) k (λ e. other (sym (All-head (λ f. f / 16 ≡ g) f more each) ∙ e))) (ap (λ (l : List ℕ). f ∷ l) (out_all g k more other (All-tail (λ f. f / 16 ≡ g) f more each)))
 
-out_none : (g : ℕ) (fragments : List ℕ) → All (λ f. f / 16 ≡ g) fragments → part_out g fragments ≡ []
+out_none : (g : ℕ) (fragments : List ℕ) → All (λ f. f / 16 ≡ g) fragments → outside_group g fragments ≡ []
 out_none g fragments each =
     let both = length-filter_both (in_group g) (out_of_group g) (λ f. refl) fragments in
-    nil_from_length (part_out g fragments) (omega (arith, ap (length {A = ℕ}) (part_of_own_group_is_all g fragments each)))
+    nil_from_length (outside_group g fragments) (omega (arith, ap (length {A = ℕ}) (inside_own_group_is_all g fragments each)))
 
 -- the first fragment isn't of a group that a list has nothing of
-first_of_none : (g f : ℕ) (more : List ℕ) → part_in g (f ∷ more) ≡ [] → f / 16 ≢ g
+first_of_none : (g f : ℕ) (more : List ℕ) → inside_group g (f ∷ more) ≡ [] → f / 16 ≢ g
 first_of_none g f more none e = no_first (rw (eq-eqb (f / 16) g e) at none)
   where
-    no_first : f ∷ part_in g more ≡ [] → ⊥
+    no_first : f ∷ inside_group g more ≡ [] → ⊥
     no_first h = cc
 
 -- the groups of a hand to which a group is added that it had nothing of
-groups_more : (counts hand got : List ℕ) (g : ℕ) → AreGroupsOf counts hand → part_in g hand ≡ [] → All (λ f. f / 16 ≡ g) got → IsGroupCount (length got)
+groups_more : (counts hand got : List ℕ) (g : ℕ) → AreGroupsOf counts hand → inside_group g hand ≡ [] → All (λ f. f / 16 ≡ g) got → IsGroupCount (length got)
     → AreGroupsOf (counts ++ length got ∷ []) (hand ++ got)
 groups_more [] hand got g is apart of_group some =
     let first : first_group_of got ≡ g = of_group 0 0 some.0 in
-    rw (is, first, part_of_own_group_is_all g got of_group, out_none g got of_group) (some, refl, refl)
+    rw (is, first, inside_own_group_is_all g got of_group, out_none g got of_group) (some, refl, refl)
 groups_more (count ∷ counts) [] got g is apart of_group some = absurd (omega (arith, is.0.0, is.1))
 groups_more (count ∷ counts) (f ∷ more) got g is apart of_group some =
     let hand = f ∷ more in
     let group = f / 16 in
     let other : g ≢ group = λ e. first_of_none g f more apart (sym e) in
-    let ins : part_in group (hand ++ got) ≡ part_in group hand = filter-append (in_group group) hand got ∙ ap (λ (l : List ℕ). part_in group hand ++ l) (part_of_other_group_is_empty g group got other of_group) ∙ append-nil (part_in group hand) in
-    let outs : part_out group (hand ++ got) ≡ part_out group hand ++ got = filter-append (out_of_group group) hand got ∙ ap (λ (l : List ℕ). part_out group hand ++ l) (out_all g group got other of_group) in
-    (is.0, ap (length {A = ℕ}) ins ∙ is.1, rw outs (groups_more counts (part_out group hand) got g is.2 (part_in_stays_without_other group g hand other ∙ apart) of_group some))
+    let ins : inside_group group (hand ++ got) ≡ inside_group group hand = filter-append (in_group group) hand got ∙ ap (λ (l : List ℕ). inside_group group hand ++ l) (inside_other_group_is_empty g group got other of_group) ∙ append-nil (inside_group group hand) in
+    let outs : outside_group group (hand ++ got) ≡ outside_group group hand ++ got = filter-append (out_of_group group) hand got ∙ ap (λ (l : List ℕ). outside_group group hand ++ l) (out_all g group got other of_group) in
+    (is.0, ap (length {A = ℕ}) ins ∙ is.1, rw outs (groups_more counts (outside_group group hand) got g is.2 (inside_group_stays_without_other group g hand other ∙ apart) of_group some))
 
 -- nothing was claimed yet
 pub has_taken_none : (number unborn need : ℕ) → unborn ≤ 15 → HasTaken number unborn need [] []
@@ -81,14 +81,14 @@ same_front xs ys x y e = append_cancel_right xs ys (x ∷ []) (e ∙ ap (λ (n :
 
 -- a group's fragments were claimed, of which the hand had none unless there were none
 pub has_taken_one_group_more : (number unborn need : ℕ) (hand : List ℕ) (told : List Entry) (group word : ℕ) → HasTaken number unborn need hand told → unborn + length hand < need
-    → (part_in group hand ≡ []) ⊎ (clear_in group word ≡ [])
+    → (inside_group group hand ≡ []) ⊎ (clear_in group word ≡ [])
     → HasTaken number unborn need (hand ++ clear_in group word) (told ++ takes_some number (length (clear_in group word)))
 has_taken_one_group_more number unborn need hand told group word taken few apart =
     let got = clear_in group word in
     elim (eqb_tells (length got) 0) as (λ _. HasTaken number unborn need (hand ++ got) (told ++ takes_some number (length got))) [
       | inl none ↦ rw (nil_from_length got none.1) (simp append-nil taken)
       | inr some ↦
-          let nothing : part_in group hand ≡ [] = elim apart [ inl empty ↦ empty | inr none ↦ absurd (some.1 (ap (length {A = ℕ}) none)) ] in
+          let nothing : inside_group group hand ≡ [] = elim apart [ inl empty ↦ empty | inr none ↦ absurd (some.1 (ap (length {A = ℕ}) none)) ] in
           let few_got = length-clear_among group word 16 in
           let counts = taken.counts in
           rw some.0 (record {
@@ -128,13 +128,13 @@ gives_back_none number unborn need hand told taken = record {
 
 -- the first group's fragments were given back
 pub gives_back_one_group_more : (number given : ℕ) (hand : List ℕ) (told : List Entry) → GivesBackAll number given hand told → 0 < length hand
-    → let part = part_in (first_group_of hand) hand in
-    GivesBackAll number (given + length part) (part_out (first_group_of hand) hand) (told ++ GivesBack number (length part) ∷ [])
+    → let group_hand = inside_group (first_group_of hand) hand in
+    GivesBackAll number (given + length group_hand) (outside_group (first_group_of hand) hand) (told ++ GivesBack number (length group_hand) ∷ [])
 gives_back_one_group_more number given hand told gives some = by gives.left gives.groups gives.shown
   where
     by : (left : List ℕ) → AreGroupsOf left hand → told ++ gives_of number left ≡ takes_of number gives.counts ++ gives_of number gives.counts
-        → let part = part_in (first_group_of hand) hand in
-        GivesBackAll number (given + length part) (part_out (first_group_of hand) hand) (told ++ GivesBack number (length part) ∷ [])
+        → let group_hand = inside_group (first_group_of hand) hand in
+        GivesBackAll number (given + length group_hand) (outside_group (first_group_of hand) hand) (told ++ GivesBack number (length group_hand) ∷ [])
     by [] groups shown = absurd (omega (arith, ap (length {A = ℕ}) groups))
     by (count ∷ left) groups shown =
         let group = first_group_of hand in
@@ -145,7 +145,7 @@ gives_back_one_group_more number given hand told gives some = by gives.left give
           all = omega (arith, gives.all);
           left = left;
           groups = groups.2;
-          shown = append_assoc told (GivesBack number (length (part_in group hand)) ∷ []) (gives_of number left) ∙ ap (λ (n : ℕ). told ++ GivesBack number n ∷ gives_of number left) groups.1 ∙ shown;
+          shown = append_assoc told (GivesBack number (length (inside_group group hand)) ∷ []) (gives_of number left) ∙ ap (λ (n : ℕ). told ++ GivesBack number n ∷ gives_of number left) groups.1 ∙ shown;
         }
 
 -- everything was given back

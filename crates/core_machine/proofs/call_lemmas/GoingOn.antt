@@ -3,9 +3,9 @@ use Rattle.std.proofs.Common.{◌≡◌, ℕ, ◌+◌, ◌-◌, ◌%◌, ◌^◌
 use Rattle.std.proofs.lemmas.Bool.Decides.{leb_tells}
 use Rattle.std.proofs.Math.Nat.{mod-eq_of_lt, add-mod_right}
 use Rattle.core_machine.proofs.Terms.{Heap, Command, New, Array, spine_need_of, Entry, IsRecordCall, IsArrayCall, Budget, Control, clear_in, at, Seat, with_entries, gather_next}
-use Rattle.core_machine.proofs.Terms.{after_gather, State, seat_at, IsAtRest, FitsPlace, Fits, free_count, KeepsOwn, Kept, kept_of}
+use Rattle.core_machine.proofs.Terms.{after_gather, State, seat_at, IsAtRest, FitsPoint, Fits, free_count, KeepsOwn, Kept, kept_of}
 use Rattle.heap_model.specs.account.Space.{need_of}
-use Rattle.core_machine.specs.declared.place.Place.TheVariants as places
+use Rattle.core_machine.specs.declared.point.Point.TheVariants as points
 use Rattle.core_machine.proofs.table_lemmas.Free.{sum_of_nothing_is_zero}
 use Rattle.core_machine.proofs.seat_lemmas.Fitting.{goes_on_cases, returning_cases, settled_cases}
 use Rattle.core_machine.proofs.call_lemmas.Asking.{AsksWords, asks_words_none}
@@ -57,32 +57,32 @@ module _ (heap : Heap) (old : State) (number : ℕ) (command : Command) where
   -- where the call goes on with what is gathered
   pub alone_stands_going_on : (now : State) (told more : List Entry) (seat : Seat) → seat.command ≡ command → seat.given ≡ 0 → seat.cursor < heap.groups → seat.reserve ≡ (seat_at old number).reserve
       → WhileGathering heap old now.words command seat.cursor seat.tried seat.hand
-      → AloneStage heap old now number command told (with_entries (gather_next heap seat) more) (gather_next heap seat).place
+      → AloneStage heap old now number command told (with_entries (gather_next heap seat) more) (gather_next heap seat).point
   alone_stands_going_on now told more seat is none cursor same while =
       let long = length-append seat.reserve seat.hand in
       let kept = ap (length {A = ℕ}) same in
-      goes_on_cases (λ s. AloneStage heap old now number command told (with_entries s more) s.place) heap seat
+      goes_on_cases (λ s. AloneStage heap old now number command told (with_entries s more) s.point) heap seat
       (λ enough.
       let making : WhileMaking heap old number command = record { granted = while.claims.granted; enough = omega (arith, while.free, enough, ap need_of is) } in
-      settled_cases (λ m. AloneStage heap old now number command told (with_entries (record (after_gather heap seat) { place = places.Making m }) more) (places.Making m)) seat.command
+      settled_cases (λ m. AloneStage heap old now number command told (with_entries (record (after_gather heap seat) { point = points.Making m }) more) (points.Making m)) seat.command
       (λ an_array. making) (λ other. making))
       (λ few left. while)
       (λ few all.
       let nothing = sum_of_nothing_is_zero heap.groups (λ g. length (clear_in g (at heap now.words (Control g))))
       (λ g within. ap length (holds_of_every_group heap.groups seat.cursor seat.tried g (λ k. clear_in k (at heap now.words (Control k)) ≡ []) cursor all within while.passed)) in
       let returning = while_returning now.words seat none while nothing in
-      returning_cases (λ m. AloneStage heap old now number command told (with_entries (record seat { place = places.Making m }) more) (places.Making m)) seat.hand
+      returning_cases (λ m. AloneStage heap old now number command told (with_entries (record seat { point = points.Making m }) more) (points.Making m)) seat.hand
       (λ empty. returning) (λ some. returning))
 
   -- the making of a record is begun
-  pub alone_stands_at_new : (now : State) → Fits heap (seat_at old number) → (seat_at old number).place ≡ places.Idle → now.words ≡ old.words
+  pub alone_stands_at_new : (now : State) → Fits heap (seat_at old number) → (seat_at old number).point ≡ points.Idle → now.words ≡ old.words
       → at heap old.words Budget < 2 ^ 64 → IsRecordCall command
-      → AloneStage heap old now number command [] (gather_next heap (record (seat_at old number) { command = command })) (gather_next heap (record (seat_at old number) { command = command })).place
+      → AloneStage heap old now number command [] (gather_next heap (record (seat_at old number) { command = command })) (gather_next heap (record (seat_at old number) { command = command })).point
   alone_stands_at_new now fits idle same small a_record =
       let seat = seat_at old number in
-      let rest : IsAtRest seat = subst (FitsPlace heap seat) idle fits.at_place in
+      let rest : IsAtRest seat = subst (FitsPoint heap seat) idle fits.at_point in
       let begun_ = gather_next heap (record seat { command = command }) in
-      subst (λ (s : Seat). AloneStage heap old now number command [] s begun_.place) (with_entries-nil begun_)
+      subst (λ (s : Seat). AloneStage heap old now number command [] s begun_.point) (with_entries-nil begun_)
       (alone_stands_going_on now [] [] (record seat { command = command }) refl rest.none_given fits.own.cursor_within refl (record {
         free = rw (same, rest.empty_hand) (omega arith);
         passed = λ i below. absurd (omega (arith, rest.none_tried));

@@ -30,7 +30,7 @@ module _ (heap : Heap) (old : State) (number : ℕ) (command : Command) (now : S
       let need_ : spine_need seat ≡ spine_need_of command = ap spine_need_of same in
       let asked : AsksWords heap (spine_need_of command) old.words after_.words =
       subst (λ (n : ℕ). AsksWords heap n old.words after_.words) need_ (subst (λ (w : List ℕ). AsksWords heap (spine_need seat) w after_.words) stay (asks_words_some heap (spine_need seat) now.words machine.table)) in
-      budget_cases (λ s. AloneStage heap old after_ number command (told ++ []) (with_entries s []) s.place) heap seat found
+      budget_cases (λ s. AloneStage heap old after_ number command (told ++ []) (with_entries s []) s.point) heap seat found
       (λ lacks. record { lacks = omega (arith, lacks, words, need_); found = words; asked = asked })
       (λ grants. alone_stands_going_on heap old number command after_ (told ++ []) [] seat same rest.none_given fits.own.cursor_within (ap (λ (k : Kept). k.reserve) kept) (record {
         free = rw rest.empty_hand (omega (arith, free_count_same_when_asked heap (spine_need_of command) old.words after_.words asked));

@@ -5,17 +5,17 @@ use Rattle.std.proofs.lemmas.Bool.{ne_eqb}
 use Rattle.std.proofs.lemmas.Bool.Decides.{eqb_tells}
 use Rattle.heap_model.specs.declared.calls.collect.Inner.{Inner}
 use Rattle.heap_model.specs.declared.calls.collect.Inner.TheVariants as inners
-use Rattle.core_machine.proofs.Terms.{Command, Entry, Answers, Heap, Kept, kept_of, Place, Step, PollLoad, Turning, Move, move_at, seat_after, Seat, with_seen, call_over, at, put}
+use Rattle.core_machine.proofs.Terms.{Command, Entry, Answers, Heap, Kept, kept_of, Point, Step, PollLoad, Turning, Move, move_at, seat_after, Seat, with_seen, call_over, at, put}
 use Rattle.core_machine.proofs.Terms.{address_of, word_after}
 use Rattle.heap_model.specs.declared.command.Command.TheVariants as commands
 use Rattle.core_machine.specs.calls.InnerStage.{IsInnerOver, InnerStageAt}
-use Rattle.core_machine.specs.declared.place.Collecting.TheVariants.{Looking, Asking, Comparing, Noting}
-use Rattle.core_machine.specs.declared.place.Place.TheVariants as places
-use Rattle.core_machine.specs.declared.place.Polling.TheVariants as polling
+use Rattle.core_machine.specs.declared.point.Collecting.TheVariants.{Looking, Asking, Comparing, Noting}
+use Rattle.core_machine.specs.declared.point.Point.TheVariants as points
+use Rattle.core_machine.specs.declared.point.Polling.TheVariants as polling
 use Rattle.core_machine.specs.declared.step.TurningStep.TheVariants.{LookLoad}
 use Rattle.core_machine.specs.declared.table.address.Address.TheVariants as addresses
 use Rattle.core_machine.specs.machine.InnerCalls.{inner_entries, seat_after_inner}
-use Rattle.core_machine.specs.seat.Collecting.{inner_place}
+use Rattle.core_machine.specs.seat.Collecting.{inner_point}
 use Rattle.core_machine.specs.seat.Handshake.{roots, answer_next, after_phase_load}
 use Rattle.core_machine.specs.seat.Looks.{compared, forgotten, looked, seen_phase}
 use Rattle.core_machine.proofs.seat_lemmas.PollingOver.{polling_over_cases}
@@ -29,9 +29,9 @@ IsOfStart heap start (Turning (LookLoad other)) word = word ≡ at heap start (a
 IsOfStart heap start _ word = Unit {0}
 
 -- no word was changed yet, but while an answer is prepared
-abbrev pub InnerAlone : List ℕ → List ℕ → Place → Type 0
-InnerAlone start words (places.Collecting place) = words ≡ start
-InnerAlone start words (places.Polling polling.Asking) = words ≡ start
+abbrev pub InnerAlone : List ℕ → List ℕ → Point → Type 0
+InnerAlone start words (points.Collecting point) = words ≡ start
+InnerAlone start words (points.Polling polling.Asking) = words ≡ start
 InnerAlone start words _ = Unit {0}
 
 module _ (heap : Heap) (start : List ℕ) (number : ℕ) where
@@ -39,40 +39,40 @@ module _ (heap : Heap) (start : List ℕ) (number : ℕ) where
   abbrev pub InnerLeads : List ℕ → Seat → Move → Type 0
   InnerLeads words seat move =
       let found = at heap words (address_of move.step) in
-      IsOfStart heap start move.step found × InnerAlone start (put heap words (address_of move.step) (word_after move.step found)) (seat_after move found).place
+      IsOfStart heap start move.step found × InnerAlone start (put heap words (address_of move.step) (word_after move.step found)) (seat_after move found).point
 
   -- an answer goes on
-  answer_alone : (words : List ℕ) (seat : Seat) → InnerAlone start words (answer_next seat).place
+  answer_alone : (words : List ℕ) (seat : Seat) → InnerAlone start words (answer_next seat).point
   answer_alone words seat =
-      elim (true_or_false (nat_lt seat.shaded (length (roots seat)))) as (λ _. InnerAlone start words (answer_next seat).place) [ inl more ↦ rw more tt | inr all ↦ rw all tt ]
+      elim (true_or_false (nat_lt seat.shaded (length (roots seat)))) as (λ _. InnerAlone start words (answer_next seat).point) [ inl more ↦ rw more tt | inr all ↦ rw all tt ]
 
-  polled_alone : (words : List ℕ) (seat : Seat) (found : ℕ) → InnerAlone start words (after_phase_load seat found).place
+  polled_alone : (words : List ℕ) (seat : Seat) (found : ℕ) → InnerAlone start words (after_phase_load seat found).point
   polled_alone words seat found =
-      elim (eqb_tells found seat.answered) as (λ _. InnerAlone start words (after_phase_load seat found).place) [
-        | inl known ↦ rw known.0 (polling_over_cases (λ s more. InnerAlone start words s.place) number seat.command seat found (λ ends. tt) (λ tells. tt))
+      elim (eqb_tells found seat.answered) as (λ _. InnerAlone start words (after_phase_load seat found).point) [
+        | inl known ↦ rw known.0 (polling_over_cases (λ s more. InnerAlone start words s.point) number seat.command seat found (λ ends. tt) (λ tells. tt))
         | inr new ↦ rw new.0 (answer_alone words (record seat { asked = found }))
       ]
 
   -- each move leads on
-  pub inner_move_leads : (words : List ℕ) (inner : Inner) (before : Kept) (seat : Seat) (told : List Entry) (place : Place) → InnerStageAt (IsOfStart heap start) number inner before seat told place → InnerAlone start words place
-      → IfSome (move_at heap number seat place) (InnerLeads words seat)
-  inner_move_leads words inner before seat told places.Idle own stay = tt
-  inner_move_leads words inner before seat told (places.Collecting Looking) own stay = (ap (λ (w : List ℕ). at heap w addresses.Phase) stay, tt)
-  inner_move_leads words inner before seat told (places.Collecting (Asking other)) own stay = (ap (λ (w : List ℕ). at heap w addresses.Phase) stay, put_of_read_changes_nothing heap words addresses.Phase ∙ stay)
-  inner_move_leads words inner before seat told (places.Collecting (Comparing other phase)) own stay = (ap (λ (w : List ℕ). at heap w (addresses.Answer other)) stay, tt)
-  inner_move_leads words inner before seat told (places.Collecting (Noting reply)) own stay = (ap (λ (w : List ℕ). at heap w addresses.Phase) stay, tt)
-  inner_move_leads words inner before seat told (places.Polling polling.Asking) own stay =
+  pub inner_move_leads : (words : List ℕ) (inner : Inner) (before : Kept) (seat : Seat) (told : List Entry) (point : Point) → InnerStageAt (IsOfStart heap start) number inner before seat told point → InnerAlone start words point
+      → IfSome (move_at heap number seat point) (InnerLeads words seat)
+  inner_move_leads words inner before seat told points.Idle own stay = tt
+  inner_move_leads words inner before seat told (points.Collecting Looking) own stay = (ap (λ (w : List ℕ). at heap w addresses.Phase) stay, tt)
+  inner_move_leads words inner before seat told (points.Collecting (Asking other)) own stay = (ap (λ (w : List ℕ). at heap w addresses.Phase) stay, put_of_read_changes_nothing heap words addresses.Phase ∙ stay)
+  inner_move_leads words inner before seat told (points.Collecting (Comparing other phase)) own stay = (ap (λ (w : List ℕ). at heap w (addresses.Answer other)) stay, tt)
+  inner_move_leads words inner before seat told (points.Collecting (Noting reply)) own stay = (ap (λ (w : List ℕ). at heap w addresses.Phase) stay, tt)
+  inner_move_leads words inner before seat told (points.Polling polling.Asking) own stay =
       let found = at heap words addresses.Phase in
       (ap (λ (w : List ℕ). at heap w addresses.Phase) stay, polled_alone (put heap words addresses.Phase found) (with_seen found seat) found)
-  inner_move_leads words inner before seat told (places.Polling polling.Shading) own stay = (tt, answer_alone _ (record seat { shaded = seat.shaded + 1 }))
-  inner_move_leads words inner before seat told (places.Polling polling.Answering) own stay =
-      (tt, polling_over_cases (λ s more. InnerAlone start (put heap words (addresses.Answer number) seat.asked) s.place) number seat.command (record seat { answered = seat.asked }) seat.asked (λ ends. tt) (λ tells. tt))
-  inner_move_leads words inner before seat told (places.Making place) own stay = absurd own
-  inner_move_leads words inner before seat told places.Local own stay = absurd own
-  inner_move_leads words inner before seat told (places.Access place) own stay = absurd own
-  inner_move_leads words inner before seat told (places.Leaving place) own stay = absurd own
+  inner_move_leads words inner before seat told (points.Polling polling.Shading) own stay = (tt, answer_alone _ (record seat { shaded = seat.shaded + 1 }))
+  inner_move_leads words inner before seat told (points.Polling polling.Answering) own stay =
+      (tt, polling_over_cases (λ s more. InnerAlone start (put heap words (addresses.Answer number) seat.asked) s.point) number seat.command (record seat { answered = seat.asked }) seat.asked (λ ends. tt) (λ tells. tt))
+  inner_move_leads words inner before seat told (points.Making point) own stay = absurd own
+  inner_move_leads words inner before seat told points.Local own stay = absurd own
+  inner_move_leads words inner before seat told (points.Access point) own stay = absurd own
+  inner_move_leads words inner before seat told (points.Leaving point) own stay = absurd own
 
-  pub inner_alone_at_first : (inner : Inner) → InnerAlone start start (inner_place inner)
+  pub inner_alone_at_first : (inner : Inner) → InnerAlone start start (inner_point inner)
   inner_alone_at_first inners.Look = refl
   inner_alone_at_first inners.Answer = refl
   inner_alone_at_first (inners.Behind other) = refl

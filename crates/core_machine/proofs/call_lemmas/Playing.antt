@@ -3,24 +3,24 @@ use Rattle.std.proofs.Common.{◌≡◌, ℕ, ◌+◌, ◌*◌, ◌%◌, ◌^◌
 use Rattle.std.proofs.lemmas.Bool.Decides.{eqb_tells}
 use Rattle.std.proofs.lemmas.List.Filters.{length-filter_both}
 use Rattle.core_machine.proofs.Terms.{Heap, Command, spine_need_of, Entry, Said, GivesBack, Address, Control, Granting, Withdrawing, Gathering, GivingBack, Refusing, Placing}
-use Rattle.core_machine.proofs.Terms.{Listing, Storing, Bearing, clear_in, part_in, part_out, in_group, out_of_group, at, put, InTable, table_length, all_taken, Seat, need}
-use Rattle.core_machine.proofs.Terms.{spine_need, with_entries, next_group_of, first_group_of, after_give_back, after_listing, after_store, store_place, next_object_id, Move}
+use Rattle.core_machine.proofs.Terms.{Listing, Storing, Bearing, clear_in, inside_group, outside_group, in_group, out_of_group, at, put, InTable, table_length, all_taken, Seat, need}
+use Rattle.core_machine.proofs.Terms.{spine_need, with_entries, next_group_of, first_group_of, after_give_back, after_listing, after_store, store_point, next_object_id, Move}
 use Rattle.core_machine.proofs.Terms.{seat_after, listing_move, bearing_move, is_last_birth, State, seat_at, found_by, state_after_move, SeatIsGathering}
 use Rattle.core_machine.proofs.Terms.{SeatIsRefusing, free_count, within_reach, KeepsOwn, IsRefused, IsMachine, Kept, kept_of}
 use Rattle.heap_model.specs.declared.reply.Reply.TheVariants as replies
 use Rattle.heap_model.specs.account.Space.{need_of}
-use Rattle.core_machine.specs.declared.place.Place.TheVariants as places
+use Rattle.core_machine.specs.declared.point.Point.TheVariants as points
 use Rattle.core_machine.specs.Moves.{claim_move, give_back_move, refusal_move, store_move, takes_some}
 use Rattle.core_machine.proofs.table_lemmas.Addresses.{at-put_other, at-put_same}
 use Rattle.core_machine.proofs.table_lemmas.Bits.{true_or_false}
 use Rattle.core_machine.proofs.table_lemmas.Free.{free_count_after_claim, claimed_group_has_none_clear}
 use Rattle.core_machine.proofs.seat_lemmas.Fitting.{returning_cases, listing_cases}
 use Rattle.core_machine.proofs.table_lemmas.Owned.{fragments_group_within_heap}
-use Rattle.core_machine.proofs.table_lemmas.Filters.{part_out_is_shorter}
+use Rattle.core_machine.proofs.table_lemmas.Filters.{outside_group_is_shorter}
 use Rattle.core_machine.proofs.call_lemmas.Asking.{AsksWords, asked_words_are_small, same_table_after_refusal}
 use Rattle.core_machine.proofs.call_lemmas.Restoring.{Claims, claims_one_group_more, claims_one_group_less, same_table_without_claims}
 use Rattle.core_machine.proofs.machine_lemmas.Parties.{set_seat_is_read}
-use Rattle.core_machine.proofs.call_lemmas.Stages.{WhileGathering, WhileGivingBack, WhileMaking, AloneStage, AloneAfter, PlaceLeadsAlone}
+use Rattle.core_machine.proofs.call_lemmas.Stages.{WhileGathering, WhileGivingBack, WhileMaking, AloneStage, AloneAfter, PointLeadsAlone}
 use Rattle.core_machine.proofs.call_lemmas.GoingOn.{keeps_own_data, alone_stands_going_on}
 use Rattle.core_machine.proofs.call_lemmas.Granting.{grant_leads_alone, withdrawal_leads_alone}
 
@@ -82,16 +82,16 @@ module _ (heap : Heap) (old : State) (number : ℕ) (command : Command) (now : S
       let group = first_group_of seat.hand in
       let there : group < heap.groups = fragments_group_within_heap heap seat.hand 0 some fits.hand.hand_within in
       let both = length-filter_both (in_group group) (out_of_group group) (λ f. refl) seat.hand in
-      let fewer = part_out_is_shorter group seat.hand 0 some refl in
+      let fewer = outside_group_is_shorter group seat.hand 0 some refl in
       let less = claims_one_group_less heap while.claims.base now.words seat.hand group machine.table there (omega arith) while.claims.claims in
-      let entry = GivesBack number (length (part_in group seat.hand)) in
+      let entry = GivesBack number (length (inside_group group seat.hand)) in
       let after_ = state_after_move heap now number (give_back_move number seat) in
-      let next : WhileGivingBack heap old after_.words command (part_out group seat.hand) (seat.given + length (part_in group seat.hand)) = record {
+      let next : WhileGivingBack heap old after_.words command (outside_group group seat.hand) (seat.given + length (inside_group group seat.hand)) = record {
         all = omega (arith, while.all);
         claims = record { base = while.claims.base; asked = while.claims.asked; granted = while.claims.granted; claims = less };
       } in
-      returning_cases (λ m. AloneStage heap old after_ number command (told ++ entry ∷ []) (with_entries (record (after_give_back seat) { place = places.Making m }) (entry ∷ [])) (places.Making m))
-      (part_out group seat.hand) (λ empty. next) (λ left. next)
+      returning_cases (λ m. AloneStage heap old after_ number command (told ++ entry ∷ []) (with_entries (record (after_give_back seat) { point = points.Making m }) (entry ∷ [])) (points.Making m))
+      (outside_group group seat.hand) (λ empty. next) (λ left. next)
 
   alone_refused : SeatIsRefusing heap the_seat → the_seat.hand ≡ [] → the_seat.command ≡ command → KeepsIt
       → WhileGivingBack heap old now.words command (seat_at now number).hand (seat_at now number).given → Leads (refusal_move number the_seat)
@@ -128,20 +128,20 @@ module _ (heap : Heap) (old : State) (number : ℕ) (command : Command) (now : S
   alone_listed while =
       let seat = the_seat in
       let after_ = state_after_move heap now number (listing_move seat) in
-      listing_cases (λ m. AloneStage heap old after_ number command (told ++ []) (with_entries (record (after_listing seat) { place = places.Making m }) []) (places.Making m)) (seat.listed + 1) (spine_need seat)
+      listing_cases (λ m. AloneStage heap old after_ number command (told ++ []) (with_entries (record (after_listing seat) { point = points.Making m }) []) (points.Making m)) (seat.listed + 1) (spine_need seat)
       (λ more. while) (λ all. while)
 
   alone_stored : WhileMaking heap old number command → Leads (store_move number the_seat)
   alone_stored while =
       let seat = the_seat in
       let after_ = state_after_move heap now number (store_move number seat) in
-      elim (eqb_tells (seat.stored + 1) (4 * length seat.body)) as (λ _. AloneStage heap old after_ number command (told ++ []) (with_entries (after_store seat) []) (places.Making (store_place (seat.stored + 1) seat.body))) [
+      elim (eqb_tells (seat.stored + 1) (4 * length seat.body)) as (λ _. AloneStage heap old after_ number command (told ++ []) (with_entries (after_store seat) []) (points.Making (store_point (seat.stored + 1) seat.body))) [
         | inl all ↦ rw all.0 while
         | inr left ↦ rw left.0 while
       ]
 
-  alone_bearing : the_seat.place ≡ places.Making Bearing → the_seat.command ≡ command → the_seat.made ≡ (seat_at old number).made → WhileMaking heap old number command → Leads (bearing_move number the_seat)
-  alone_bearing place same made while =
+  alone_bearing : the_seat.point ≡ points.Making Bearing → the_seat.command ≡ command → the_seat.made ≡ (seat_at old number).made → WhileMaking heap old number command → Leads (bearing_move number the_seat)
+  alone_bearing point same made while =
       let seat = the_seat in
       elim (true_or_false (is_last_birth seat)) as (λ _. Leads (bearing_move number seat)) [
         | inl last ↦ rw last (record {
@@ -157,37 +157,37 @@ module _ (heap : Heap) (old : State) (number : ℕ) (command : Command) (now : S
             refused = λ granted lacks. absurd (omega (arith, lacks, while.enough));
           };
         })
-        | inr more ↦ rw (more, place) while
+        | inr more ↦ rw (more, point) while
       ]
 
 -- the spine words were asked for, and taken back where they were too many
-pub grants_alone : PlaceLeadsAlone (places.Making Granting)
+pub grants_alone : PointLeadsAlone (points.Making Granting)
 grants_alone heap old number command now told here = grant_leads_alone heap old number command now told here.machine here.within here.small here.fits here.same here.own.kept_stays here.alone
 
-pub withdraws_alone : PlaceLeadsAlone (places.Making Withdrawing)
+pub withdraws_alone : PointLeadsAlone (points.Making Withdrawing)
 withdraws_alone heap old number command now told here = withdrawal_leads_alone heap old number command now told here.machine here.within here.small here.fits here.same here.own.0.kept_stays here.alone
 
 -- a group was claimed
-pub claims_alone : PlaceLeadsAlone (places.Making Gathering)
+pub claims_alone : PointLeadsAlone (points.Making Gathering)
 claims_alone heap old number command now told here = alone_claimed heap old number command now told here.machine here.within here.small here.fits here.same here.own.0 here.alone
 
 -- what was claimed was given back, and the refusal told
-pub gives_back_alone : PlaceLeadsAlone (places.Making GivingBack)
+pub gives_back_alone : PointLeadsAlone (points.Making GivingBack)
 gives_back_alone heap old number command now told here = alone_given_back heap old number command now told here.machine here.within here.small here.fits.0 here.fits.1 here.alone
 
-pub refuses_alone : PlaceLeadsAlone (places.Making Refusing)
+pub refuses_alone : PointLeadsAlone (points.Making Refusing)
 refuses_alone heap old number command now told here = alone_refused heap old number command now told here.machine here.within here.small here.fits.0 here.fits.1 here.same here.own.0 here.alone
 
 -- the spine got its place, and a word; so did a fragment
-pub places_alone : PlaceLeadsAlone (places.Making Placing)
+pub places_alone : PointLeadsAlone (points.Making Placing)
 places_alone heap old number command now told here = here.alone
 
-pub lists_alone : PlaceLeadsAlone (places.Making Listing)
+pub lists_alone : PointLeadsAlone (points.Making Listing)
 lists_alone heap old number command now told here = alone_listed heap old number command now told here.machine here.within here.small here.alone
 
-pub stores_alone : PlaceLeadsAlone (places.Making Storing)
+pub stores_alone : PointLeadsAlone (points.Making Storing)
 stores_alone heap old number command now told here = alone_stored heap old number command now told here.machine here.within here.small here.alone
 
 -- fragments were born
-pub bears_alone : PlaceLeadsAlone (places.Making Bearing)
-bears_alone heap old number command now told here = alone_bearing heap old number command now told here.machine here.within here.small here.placed here.same (ap (λ (k : Kept). k.made) here.own.0.kept_is) here.alone
+pub bears_alone : PointLeadsAlone (points.Making Bearing)
+bears_alone heap old number command now told here = alone_bearing heap old number command now told here.machine here.within here.small here.point_is here.same (ap (λ (k : Kept). k.made) here.own.0.kept_is) here.alone

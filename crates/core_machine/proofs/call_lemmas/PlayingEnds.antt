@@ -4,7 +4,7 @@ use Rattle.core_machine.proofs.Terms.{Heap, Command, Entry, Said, Reply, Phase, 
 use Rattle.core_machine.proofs.Terms.{put, address_of, word_after, Seat, call_over, Move, local_move, seat_after, State, seat_at, found_by, state_after_move, Kept, kept_of}
 use Rattle.heap_model.specs.declared.command.Command.TheVariants as commands
 use Rattle.heap_model.specs.declared.reply.Reply.TheVariants as replies
-use Rattle.core_machine.specs.declared.place.Place.TheVariants as places
+use Rattle.core_machine.specs.declared.point.Point.TheVariants as points
 use Rattle.core_machine.specs.seat.Local.{local_reply_of}
 use Rattle.core_machine.specs.seat.Looks.{Looks, forgotten, seen_phase}
 use Rattle.core_machine.proofs.table_lemmas.Addresses.{put_of_read_changes_nothing}
@@ -12,7 +12,7 @@ use Rattle.core_machine.proofs.seat_lemmas.Fitting.{array_makes_object, record_m
 use Rattle.core_machine.proofs.call_lemmas.Stages.{Answered}
 use Rattle.core_machine.proofs.machine_lemmas.Parties.{set_seat_is_read}
 use Rattle.core_machine.proofs.call_lemmas.RepliesAlone.{RepliesAlone, local_replies_alone, alone_makes_no_object, local_reply_is_no_object, refusal_leaves_registers, IsBeyond}
-use Rattle.core_machine.proofs.call_lemmas.Stages.{PlaceLeadsAlone}
+use Rattle.core_machine.proofs.call_lemmas.Stages.{PointLeadsAlone}
 
 -- the reply is a refusal, where there is one, and leaves all
 abbrev pub LeavesAllOf : Heap → State → State → ℕ → Option Reply → Type 0
@@ -90,7 +90,7 @@ seen_refused heap old now number reply none kept stay =
     ∙ ap (λ (r : Reply). looks_refused heap old.words r (seat_at old number).looks) (sym none)
 
 -- a command that looks at no word was answered
-pub tells_alone : PlaceLeadsAlone places.Local
+pub tells_alone : PointLeadsAlone points.Local
 tells_alone heap old number command now told here =
     let seat = seat_at now number in
     let move = local_move number seat in

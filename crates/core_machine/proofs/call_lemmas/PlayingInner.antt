@@ -7,12 +7,12 @@ use Rattle.core_machine.proofs.Terms.{Entry, Heap, Step, State, seat_at, found_b
 use Rattle.core_machine.proofs.Terms.{entries, MachineValue, IsMachine, spare_of, SpendsRoom, Move, next_move, due_step, seat_after, Seat, call_over, kept_of, entries_awaited}
 use Rattle.core_machine.proofs.Terms.{entries_awaited_at, owes}
 use Rattle.core_machine.specs.machine.InnerCalls.{PlaysInner}
-use Rattle.core_machine.proofs.call_lemmas.CallEnd.{StepsOn, steps_on_one_more, placeless_is_idle}
+use Rattle.core_machine.proofs.call_lemmas.CallEnd.{StepsOn, steps_on_one_more, stepless_is_idle}
 use Rattle.core_machine.proofs.call_lemmas.CallRoom.{seat_log_is_own_list}
 use Rattle.core_machine.specs.calls.InnerStage.{OwnInnerStage}
 use Rattle.core_machine.proofs.call_lemmas.Underway.{Underway, underway_after_begin, underway_after_step, more_listed, found_due}
 use Rattle.core_machine.proofs.call_lemmas.InnerCalls.{IsOfStart, InnerAlone, InnerLeads, inner_move_leads, inner_alone_at_first, inner_leaves_seat_as_due}
-use Rattle.core_machine.proofs.own_stages.Inner.{own_inner_leads, own_inner_begins, placeless_inner_is_over}
+use Rattle.core_machine.proofs.own_stages.Inner.{own_inner_leads, own_inner_begins, idle_inner_is_over}
 use Rattle.core_machine.proofs.machine_lemmas.Parties.{set_seat_is_read}
 use Rattle.core_machine.proofs.moves.Collect.{inner_stands}
 use Rattle.core_machine.proofs.seat_lemmas.Aside.{idle_call_over_same}
@@ -23,7 +23,7 @@ pub record PlayingInner (heap : Heap) (old now : State) (number : ℕ) (inner : 
   pub under : Underway heap old now number (BeginsInner number inner) told
   pub listed : List Entry
   pub own : OwnInnerStage (IsOfStart heap old.words) number inner (seat_at old number) (seat_at now number) listed
-  pub alone : InnerAlone old.words now.words (seat_at now number).place
+  pub alone : InnerAlone old.words now.words (seat_at now number).point
   pub resting : call_over (seat_at old number) ≡ seat_at old number
 
 pub playing_inner_after_begin : (heap : Heap) (old : State) (number : ℕ) (inner : Inner) → IsMachine heap old → Can heap old (BeginsInner number inner)
@@ -38,14 +38,14 @@ playing_inner_after_begin heap old number inner machine can =
       under = underway_after_begin heap old number (BeginsInner number inner) begun_ machine can can.0 refl refl stands.kept (stands.awaits old.words);
       listed = [];
       own = subst (λ (s : Seat). OwnInnerStage (IsOfStart heap old.words) number inner seat s []) (sym here) (own_inner_begins (IsOfStart heap old.words) number seat inner);
-      alone = subst (λ (s : Seat). InnerAlone old.words old.words s.place) (sym here) (inner_alone_at_first heap old.words number inner);
+      alone = subst (λ (s : Seat). InnerAlone old.words old.words s.point) (sym here) (inner_alone_at_first heap old.words number inner);
       resting = idle_call_over_same heap seat (machine.fit number can.0) can.1.idle;
     }
 
 -- the stages that a due move leaves
 record InnerBy (heap : Heap) (old now next : State) (number : ℕ) (inner : Inner) (listed : List Entry) : Type 0 where
   own : OwnInnerStage (IsOfStart heap old.words) number inner (seat_at old number) (seat_at next number) listed
-  alone : InnerAlone old.words next.words (seat_at next number).place
+  alone : InnerAlone old.words next.words (seat_at next number).point
 
 inner_by : (heap : Heap) (old now : State) (number : ℕ) (inner : Inner) (playing : PlayingInner heap old now number inner) (move : Option Move) → next_move heap number (seat_at now number) ≡ move → IsSome move
     → IfSome move (InnerLeads heap old.words number now.words (seat_at now number))
@@ -60,7 +60,7 @@ inner_by heap old now number inner playing (Some m) is some leads =
       own = subst (λ (s : Seat). OwnInnerStage (IsOfStart heap old.words) number inner (seat_at old number) s (playing.listed ++ m.adds found)) (sym here)
           (own_inner_leads (IsOfStart heap old.words) heap number inner (seat_at old number) (seat_at now number) playing.listed m found machine.limits
           (omega (arith, within, machine.seated, machine.limits.seats_fit)) (machine.fit number within) is leads.0 playing.own);
-      alone = subst (λ (s : Seat). InnerAlone old.words (state_after_move heap now number m).words s.place) (sym here) leads.1;
+      alone = subst (λ (s : Seat). InnerAlone old.words (state_after_move heap now number m).words s.point) (sym here) leads.1;
     }
 
 pub inner_more : (heap : Heap) (old now : State) (number : ℕ) (inner : Inner) → PlayingInner heap old now number inner → IsSome (next_move heap number (seat_at now number))
@@ -69,7 +69,7 @@ inner_more heap old now number inner playing some =
     let seat = seat_at now number in
     let move = next_move heap number seat in
     let left = inner_by heap old now number inner playing move refl some
-    (inner_move_leads heap old.words number now.words inner (kept_of (seat_at old number)) seat playing.listed seat.place playing.own.stage playing.alone) in
+    (inner_move_leads heap old.words number now.words inner (kept_of (seat_at old number)) seat playing.listed seat.point playing.own.stage playing.alone) in
     record {
       told = playing.told ++ entries heap now (Steps number);
       under = underway_after_step heap old now number (BeginsInner number inner) playing.told playing.under some;
@@ -84,11 +84,11 @@ pub inner_was_played : (heap : Heap) (old now : State) (number : ℕ) (inner : I
     → PlaysInner heap old now number inner
 inner_was_played heap old now number inner playing none =
     let seat = seat_at now number in
-    let idle = placeless_is_idle heap number seat none in
+    let idle = stepless_is_idle heap number seat none in
     let awaited : entries_awaited heap now.words number seat ≡ [] = ap (entries_awaited_at heap now.words number seat) idle in
     let told : playing.listed ≡ playing.told = append_cancel_left (seat_at old number).mine playing.listed playing.told
     (sym playing.own.mine ∙ sym (append-nil seat.mine) ∙ ap (λ (l : List Entry). seat.mine ++ l) (sym awaited) ∙ playing.under.mine) in
-    let over = placeless_inner_is_over (IsOfStart heap old.words) number inner (seat_at old number) seat playing.listed playing.own idle in
+    let over = idle_inner_is_over (IsOfStart heap old.words) number inner (seat_at old number) seat playing.listed playing.own idle in
     let comes = inner_leaves_seat_as_due heap old.words number (seat_at old number) seat playing.listed playing.resting (idle_call_over_same heap seat (playing.under.machine.fit number playing.under.within) idle) playing.own.same playing.own.mine inner over in
     record { steps = playing.under.steps; can = playing.under.can; ends = playing.under.ends; shown = playing.under.shows ∙ sym told ∙ comes.1; seat = comes.0 }
 

@@ -53,7 +53,7 @@ mine_by heap old now number told move within adds mine =
     ∙ ap (λ (l : List Entry). l ++ shows) mine ∙ append_assoc old.mine told shows)
 
 mine_more : (heap : Heap) (old : Seat) (now : State) (number : ℕ) (told : List Entry) (move : Option Move) → number < length now.seats → IsSome move
-    → IfSome move (MoveStands heap number (seat_at now number) (seat_at now number).place)
+    → IfSome move (MoveStands heap number (seat_at now number) (seat_at now number).point)
     → (seat_at now number).mine ++ entries_awaited heap now.words number (seat_at now number) ≡ old.mine ++ told
     → let next = state_after_due heap now number move in
     (seat_at next number).mine ++ entries_awaited heap next.words number (seat_at next number) ≡ old.mine ++ (told ++ entries_shown heap now move)

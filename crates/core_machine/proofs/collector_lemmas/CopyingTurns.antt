@@ -4,7 +4,7 @@ use Rattle.std.specs.Prelude.{IfSome}
 use Rattle.std.proofs.Common.{suc, ◌≡◌, ℕ, ◌+◌, ◌*◌, ◌/◌, ◌%◌, ◌^◌, ◌<◌, Option, Some, None, length-append, refl, inl, inr, arith}
 use Rattle.std.proofs.lemmas.Bool.Decides.{eqb_tells, leb_tells}
 use Rattle.heap_words.specs.declared.spot.Spot.{Spot}
-use Rattle.heap_words.specs.Control.{marked_bits_of, next_place_of}
+use Rattle.heap_words.specs.Control.{marked_bits_of, next_position_of}
 use Rattle.heap_words.specs.Spot.{spot_in}
 use Rattle.core_machine.proofs.Terms.{Heap, IsHeap, array_length_of, FoundPointsWithin, FitsSpot, address_of}
 use Rattle.core_machine.specs.declared.collector.stage.ArrayAt.{ArrayAt}
@@ -20,7 +20,7 @@ use Rattle.core_machine.specs.collector.CopyingTurns.{visited, copying_step, aft
 use Rattle.core_machine.specs.collector.FitsTurns.{IsCopying, FitsVisit, FitsArrayAt, FitsCopy, FitsCopying, FitsStage}
 use Rattle.core_machine.proofs.collector_lemmas.SpineTurns.{told_spot_fits}
 use Rattle.core_machine.proofs.collector_lemmas.Standing.{StageStands, work_turn_stands, collector_fits_at_stage}
-use Rattle.core_machine.proofs.table_lemmas.DeadBits.{next_place_has_bit}
+use Rattle.core_machine.proofs.table_lemmas.DeadBits.{next_position_has_bit}
 use Rattle.core_machine.proofs.table_lemmas.Leading.{spot_leads_within_heap}
 use Rattle.core_machine.proofs.table_lemmas.Lengths.{array_length_is_small}
 use Rattle.core_machine.proofs.table_lemmas.StepStands.{StepStands, load_step_stands}
@@ -40,16 +40,16 @@ module _ (heap : Heap) (phase looked : ℕ) (copies : IsCopying heap.seats phase
   ]
 
   -- a marked fragment is looked at, or the group is done
-  fits_seen : (group marked : ℕ) (place : Option ℕ) → group < heap.groups → marked < 2 ^ 16 → IfSome place (λ i. (i < 16) × (bit_at marked i ≡ 1))
-      → FitsStage heap phase looked (after_seen heap group marked place)
+  fits_seen : (group marked : ℕ) (position : Option ℕ) → group < heap.groups → marked < 2 ^ 16 → IfSome position (λ i. (i < 16) × (bit_at marked i ≡ 1))
+      → FitsStage heap phase looked (after_seen heap group marked position)
   fits_seen group marked None within few is = fits_visited group
-  fits_seen group marked (Some place) within few is = (copies, record { group_within = within; marked_within = few; place_within = is.0; is_marked = is.1 })
+  fits_seen group marked (Some position) within few is = (copies, record { group_within = within; marked_within = few; position_within = is.0; is_marked = is.1 })
 
   fits_visit : (group word : ℕ) → group < heap.groups → FitsStage heap phase looked (after_visit heap group word)
-  fits_visit group word within = fits_seen group (marked_bits_of word) (next_place_of (marked_bits_of word) 0) within (omega arith) (next_place_has_bit (marked_bits_of word) 0)
+  fits_visit group word within = fits_seen group (marked_bits_of word) (next_position_of (marked_bits_of word) 0) within (omega arith) (next_position_has_bit (marked_bits_of word) 0)
 
   fits_on : (visit : Visit) → FitsVisit heap visit → FitsStage heap phase looked (visit_on heap visit)
-  fits_on visit there = fits_seen visit.group visit.marked (next_place_of visit.marked (visit.place + 1)) there.group_within there.marked_within (next_place_has_bit visit.marked (visit.place + 1))
+  fits_on visit there = fits_seen visit.group visit.marked (next_position_of visit.marked (visit.position + 1)) there.group_within there.marked_within (next_position_has_bit visit.marked (visit.position + 1))
 
   -- behind an array's meta its name comes
   fits_inspected : (visit : Visit) (length : Option ℕ) → FitsVisit heap visit → IfSome length (λ cells. cells < 2 ^ 13) → FitsStage heap phase looked (after_inspected heap visit length)
@@ -72,7 +72,7 @@ module _ (heap : Heap) (phase looked : ℕ) (copies : IsCopying heap.seats phase
 
 -- the fragment of a visit is one of the heap's
 visited_within : (heap : Heap) (visit : Visit) → FitsVisit heap visit → visited visit < 16 * heap.groups
-visited_within heap visit there = omega (arith, there.group_within, there.place_within)
+visited_within heap visit there = omega (arith, there.group_within, there.position_within)
 
 -- what copying does at a stage: its step stands, and where it goes on fits
 record CopyingStands (heap : Heap) (phase looked : ℕ) (stage : Copying) : Type 0 where

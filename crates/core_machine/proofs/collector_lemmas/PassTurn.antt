@@ -22,10 +22,10 @@ module _ (heap : Heap) (limits : IsHeap heap) (phase looked : ℕ) (marks : IsMa
     | inr all ↦ rw all.0 (fits_last_group found)
   ]
 
-  -- the place that was found is one of the group's
-  fits_pass : (group : ℕ) (found : Bool) (place : Option ℕ) → group < heap.groups → IfSome place (λ i. i < 16) → FitsStage heap phase looked (after_pass heap group found place)
+  -- the position that was found is one of the group's
+  fits_pass : (group : ℕ) (found : Bool) (position : Option ℕ) → group < heap.groups → IfSome position (λ i. i < 16) → FitsStage heap phase looked (after_pass heap group found position)
   fits_pass group found None within few = fits_group group found
-  fits_pass group found (Some place) within few =
+  fits_pass group found (Some position) within few =
       record { marks = marks; fragment_within = omega (arith, within, few); part_within = omega arith; few_steps = omega arith }
 
 pub stage_stands_at_passing : (group : ℕ) (found : Bool) → StageStands (stages.Passing group found)

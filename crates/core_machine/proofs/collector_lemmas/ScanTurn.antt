@@ -25,8 +25,8 @@ after_part part word within = elim (eqb_tells part 0) as (λ _. (part < part_aft
 
 module _ (heap : Heap) (phase looked : ℕ) (marks : IsMarking heap.seats phase looked) (scan : Scan) (within : scan.fragment < 16 * heap.groups) where
   -- the scan comes to a word by few steps
-  pub scan_place_fits : (part : ℕ) → part ≤ 4 → scan.steps ≤ 2 * part → FitsStage heap phase looked (scan_at scan part)
-  scan_place_fits part below few = elim (leb_tells (suc part) 4) as (λ _. FitsStage heap phase looked (scan_at scan part)) [
+  pub scan_stage_fits : (part : ℕ) → part ≤ 4 → scan.steps ≤ 2 * part → FitsStage heap phase looked (scan_at scan part)
+  scan_stage_fits part below few = elim (leb_tells (suc part) 4) as (λ _. FitsStage heap phase looked (scan_at scan part)) [
     | inl more ↦ rw more.0 (record { marks = marks; fragment_within = within; part_within = more.1; few_steps = few })
     | inr all ↦ rw all.0 (record { marks = marks; fragment_within = within; few_steps = omega (arith, below, few) })
   ]
@@ -34,7 +34,7 @@ module _ (heap : Heap) (phase looked : ℕ) (marks : IsMarking heap.seats phase 
 fits_scan : (heap : Heap) (phase looked : ℕ) (scan : Scan) (next : ℕ) (target : Option ℕ) → IsScanning heap phase looked scan → scan.part < next → next ≤ 4
     → IsWithinHeap heap target → FitsStage heap phase looked (after_scan_load scan next target)
 fits_scan heap phase looked scan next None here before below led =
-    scan_place_fits heap phase looked here.marks (scan_step scan) here.fragment_within next below (omega (arith, here.few_steps))
+    scan_stage_fits heap phase looked here.marks (scan_step scan) here.fragment_within next below (omega (arith, here.few_steps))
 fits_scan heap phase looked scan next (Some target) here before below led = record {
   marks = here.marks;
   fragment_within = here.fragment_within;

@@ -48,38 +48,38 @@ put_leaves_one_more heap words n (Spine half offset) word table past within ther
 
 -- the next of the board's words
 abbrev pub next_word : Heap → ℕ → ℕ
-next_word heap place = board_word heap (place / 4) (place % 4)
+next_word heap position = board_word heap (position / 4) (position % 4)
 
 -- another word isn't
-with_board-other : (heap : Heap) (fragment part place word : ℕ) → 4 * fragment + part ≢ place
-    → with_board heap place (Word fragment part) word ≡ with_board heap (place + 1) (Word fragment part) word
-with_board-other heap fragment part place word other =
-    elim (leb_tells (suc (4 * fragment + part)) place) as (λ _. with_board heap place (Word fragment part) word ≡ with_board heap (place + 1) (Word fragment part) word) [
-      | inl below ↦ rw (below.0, lt-ltb (4 * fragment + part) (place + 1) (omega arith)) refl
-      | inr above ↦ rw (above.0, le-ltb (4 * fragment + part) (place + 1) (omega arith)) refl
+with_board-other : (heap : Heap) (fragment part position word : ℕ) → 4 * fragment + part ≢ position
+    → with_board heap position (Word fragment part) word ≡ with_board heap (position + 1) (Word fragment part) word
+with_board-other heap fragment part position word other =
+    elim (leb_tells (suc (4 * fragment + part)) position) as (λ _. with_board heap position (Word fragment part) word ≡ with_board heap (position + 1) (Word fragment part) word) [
+      | inl below ↦ rw (below.0, lt-ltb (4 * fragment + part) (position + 1) (omega arith)) refl
+      | inr above ↦ rw (above.0, le-ltb (4 * fragment + part) (position + 1) (omega arith)) refl
     ]
 
-pub put_boards_one_more : (heap : Heap) (words : List ℕ) (place : ℕ) (a : Address) (word : ℕ) → length words ≡ table_length heap → 1 ≤ heap.groups → place < 44
-    → InTable heap a → at heap words a ≡ with_board heap place a word
-    → at heap (put heap words (Word (place / 4) (place % 4)) (next_word heap place)) a ≡ with_board heap (place + 1) a word
-put_boards_one_more heap words place (Word fragment part) word table some within there is =
-    elim (eqb_tells (4 * fragment + part) place) as (λ _. at heap (put heap words (Word (place / 4) (place % 4)) (next_word heap place)) (Word fragment part) ≡ with_board heap (place + 1) (Word fragment part) word) [
+pub put_boards_one_more : (heap : Heap) (words : List ℕ) (position : ℕ) (a : Address) (word : ℕ) → length words ≡ table_length heap → 1 ≤ heap.groups → position < 44
+    → InTable heap a → at heap words a ≡ with_board heap position a word
+    → at heap (put heap words (Word (position / 4) (position % 4)) (next_word heap position)) a ≡ with_board heap (position + 1) a word
+put_boards_one_more heap words position (Word fragment part) word table some within there is =
+    elim (eqb_tells (4 * fragment + part) position) as (λ _. at heap (put heap words (Word (position / 4) (position % 4)) (next_word heap position)) (Word fragment part) ≡ with_board heap (position + 1) (Word fragment part) word) [
       | inl here ↦
-          let f : place / 4 ≡ fragment = omega arith in
-          let p : place % 4 ≡ part = omega arith in
-          let now : ltb (4 * fragment + part) (place + 1) ≡ true = lt-ltb (4 * fragment + part) (place + 1) (omega arith) in
+          let f : position / 4 ≡ fragment = omega arith in
+          let p : position % 4 ≡ part = omega arith in
+          let now : ltb (4 * fragment + part) (position + 1) ≡ true = lt-ltb (4 * fragment + part) (position + 1) (omega arith) in
           rw (f, p, now) (at-put_same heap words (Word fragment part) (board_word heap fragment part) table there)
       | inr other ↦
-          at-put_other heap words (Word (place / 4) (place % 4)) (Word fragment part) (next_word heap place) (omega arith, omega arith) there
-          (λ same. other.1 (let f : fragment ≡ place / 4 = cc in let p : part ≡ place % 4 = cc in omega arith))
-          ∙ is ∙ with_board-other heap fragment part place word other.1
+          at-put_other heap words (Word (position / 4) (position % 4)) (Word fragment part) (next_word heap position) (omega arith, omega arith) there
+          (λ same. other.1 (let f : fragment ≡ position / 4 = cc in let p : part ≡ position % 4 = cc in omega arith))
+          ∙ is ∙ with_board-other heap fragment part position word other.1
     ]
-put_boards_one_more heap words place (Answer number) word table some within there is = at-put_other heap words (Word (place / 4) (place % 4)) (Answer number) (next_word heap place) (omega arith, omega arith) there (λ e. cc) ∙ is
-put_boards_one_more heap words place Phase word table some within there is = at-put_other heap words (Word (place / 4) (place % 4)) Phase (next_word heap place) (omega arith, omega arith) tt (λ e. cc) ∙ is
-put_boards_one_more heap words place Budget word table some within there is = at-put_other heap words (Word (place / 4) (place % 4)) Budget (next_word heap place) (omega arith, omega arith) tt (λ e. cc) ∙ is
-put_boards_one_more heap words place Spot word table some within there is = at-put_other heap words (Word (place / 4) (place % 4)) Spot (next_word heap place) (omega arith, omega arith) tt (λ e. cc) ∙ is
-put_boards_one_more heap words place (Control group) word table some within there is = at-put_other heap words (Word (place / 4) (place % 4)) (Control group) (next_word heap place) (omega arith, omega arith) there (λ e. cc) ∙ is
-put_boards_one_more heap words place (Spine half offset) word table some within there is = at-put_other heap words (Word (place / 4) (place % 4)) (Spine half offset) (next_word heap place) (omega arith, omega arith) there (λ e. cc) ∙ is
+put_boards_one_more heap words position (Answer number) word table some within there is = at-put_other heap words (Word (position / 4) (position % 4)) (Answer number) (next_word heap position) (omega arith, omega arith) there (λ e. cc) ∙ is
+put_boards_one_more heap words position Phase word table some within there is = at-put_other heap words (Word (position / 4) (position % 4)) Phase (next_word heap position) (omega arith, omega arith) tt (λ e. cc) ∙ is
+put_boards_one_more heap words position Budget word table some within there is = at-put_other heap words (Word (position / 4) (position % 4)) Budget (next_word heap position) (omega arith, omega arith) tt (λ e. cc) ∙ is
+put_boards_one_more heap words position Spot word table some within there is = at-put_other heap words (Word (position / 4) (position % 4)) Spot (next_word heap position) (omega arith, omega arith) tt (λ e. cc) ∙ is
+put_boards_one_more heap words position (Control group) word table some within there is = at-put_other heap words (Word (position / 4) (position % 4)) (Control group) (next_word heap position) (omega arith, omega arith) there (λ e. cc) ∙ is
+put_boards_one_more heap words position (Spine half offset) word table some within there is = at-put_other heap words (Word (position / 4) (position % 4)) (Spine half offset) (next_word heap position) (omega arith, omega arith) there (λ e. cc) ∙ is
 
 -- a list of one number reads as that number, and so it does past its end
 read_same : (n i number : ℕ) → get_or (replicate n number) i number ≡ number
@@ -168,9 +168,9 @@ fits_open heap number limits = record {
   hand = empty_hand_fits heap;
   way = empty_way_fits heap limits.some_group;
   asked_small = omega arith;
-  at_place = record { empty_hand = refl; no_body = refl; none_stored = refl; none_tried = refl; none_given = refl; no_spine = record { none_used = refl; no_place = refl; none_listed = refl } };
-  way_at_place = record { none_reached = refl; no_links = refl; no_part = refl; no_address = refl; none_loaded = refl };
-  answer_at_place = record { none_asked = refl; none_shaded = refl };
+  at_point = record { empty_hand = refl; no_body = refl; none_stored = refl; none_tried = refl; none_given = refl; no_spine = record { none_used = refl; no_place = refl; none_listed = refl } };
+  way_at_point = record { none_reached = refl; no_links = refl; no_part = refl; no_address = refl; none_loaded = refl };
+  answer_at_point = record { none_asked = refl; none_shaded = refl };
   gone = left_aside_is_absurd refl;
 }
 

@@ -86,6 +86,6 @@ begins_of words parties collector number p command within is tells =
     let long = length-map parties (λ (s : SeatWithRoom). s.seat) in
     rw (seat_is_partys words parties collector number p within ∙ sym (ap (λ (s : SeatWithRoom). s.seat) is)) (λ may. (omega (arith, long, within), tells.0 may), λ both. tells.1 both.1)
 
--- a seat that was put in its place
+-- a seat that was put in its position
 pub set_seat_is_read : (seats : List Seat) (number : ℕ) (seat : Seat) → number < length seats → get_or (set seats number seat) number absent_seat ≡ seat
 set_seat_is_read seats number seat within = get_or-set_same seats number seat absent_seat within

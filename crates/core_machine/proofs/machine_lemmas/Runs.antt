@@ -77,12 +77,12 @@ machine_with heap state words number seat machine within same wide leads fits =
 
 -- each move of one of the seats stands
 pub each_move_stands : (heap : Heap) (state : State) (number : ℕ) → IsMachine heap state → number < length state.seats
-    → IfSome (next_move heap number (seat_at state number)) (MoveStands heap number (seat_at state number) (seat_at state number).place)
+    → IfSome (next_move heap number (seat_at state number)) (MoveStands heap number (seat_at state number) (seat_at state number).point)
 each_move_stands heap state number machine within =
     due_move_stands heap number (seat_at state number) machine.limits (omega (arith, within, machine.seated, machine.limits.seats_fit)) (machine.fit number within)
 
 machine_moved : (heap : Heap) (state : State) (number : ℕ) (move : Option Move) → IsMachine heap state → number < length state.seats
-    → IfSome move (MoveStands heap number (seat_at state number) (seat_at state number).place) → IsMachine heap (state_after_due heap state number move)
+    → IfSome move (MoveStands heap number (seat_at state number) (seat_at state number).point) → IsMachine heap (state_after_due heap state number move)
 machine_moved heap state number None machine within stands = machine
 machine_moved heap state number (Some move) machine within stands =
     let found = found_by heap state move.step in
@@ -125,7 +125,7 @@ mover_within heap state number some =
 
 -- the due step touches a word of the table, and finds one there that leads within the heap
 due_at_move : (heap : Heap) (state : State) (number : ℕ) (move : Option Move) (step : Step) → IsMachine heap state → option_map (λ m. m.step) move ≡ Some step
-    → IfSome move (MoveStands heap number (seat_at state number) (seat_at state number).place)
+    → IfSome move (MoveStands heap number (seat_at state number) (seat_at state number).point)
     → InTable heap (address_of step) × IfSome move (λ m. FoundPointsWithin heap (address_of m.step) (found_by heap state step))
 due_at_move heap state number None step machine due stands = cc
 due_at_move heap state number (Some move) step machine due stands =

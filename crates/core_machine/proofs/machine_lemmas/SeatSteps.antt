@@ -1,4 +1,4 @@
--- A machine at the step of a seat: what is known before it, and what it leaves. The machine is given by its parts, and the step is due by its value.
+-- A machine at the step of a seat: what is known before it, and what it leaves. The machine is given by its fields, and the step is due by its value.
 use Rattle.std.proofs.Common.{◌≡◌, ℕ, ◌+◌, ◌<◌, ◌≤◌, List, length, get_or, set, Some, subst, sym, arith}
 use Rattle.std.specs.Prelude.{IfSome}
 use Rattle.core_machine.proofs.Terms.{Heap, Step, put, InTable, FoundPointsWithin, address_of, word_after, Fits, next_move, due_step, seat_after_due, seat_at, found_by, Steps}

@@ -8,19 +8,19 @@ use Rattle.std.proofs.lemmas.Nat.{and_le_r, or_lt}
 use Rattle.std.specs.List.{All}
 use Rattle.heap_model.specs.account.Space.{need_of}
 use Rattle.core_machine.proofs.Terms.{Command, New, Entry, Heap, refusal_step, Gathering, GivingBack, Refusing, PollLoad, found_by, MayBegin, after_begin, entries_awaited, Fits}
-use Rattle.core_machine.proofs.Terms.{MakesNext, SeatIsGathering, SeatIsRefusing, FitsPlace, after_gather, after_claim, after_give_back, next_group_of, first_group_of}
-use Rattle.core_machine.proofs.Terms.{refusal_place, fragments_gathered, gather_next, Seat, need, spine_need, with_entries, clear_in, part_out, in_group, out_of_group, part_in}
+use Rattle.core_machine.proofs.Terms.{MakesNext, SeatIsGathering, SeatIsRefusing, FitsPoint, after_gather, after_claim, after_give_back, next_group_of, first_group_of}
+use Rattle.core_machine.proofs.Terms.{refusal_point, fragments_gathered, gather_next, Seat, need, spine_need, with_entries, clear_in, outside_group, in_group, out_of_group, inside_group}
 use Rattle.core_machine.proofs.Terms.{mask_of, all_taken, owes_making, making_steps, Nears, owes}
 use Rattle.heap_model.specs.declared.command.Command.TheVariants as commands
 use Rattle.core_machine.specs.Moves.{takes_some}
-use Rattle.core_machine.specs.declared.place.Place.TheVariants as places
-use Rattle.core_machine.specs.seat.MakingMoves.{claim_move, first_part, give_back_move, refusal_looks, refusal_move}
+use Rattle.core_machine.specs.declared.point.Point.TheVariants as points
+use Rattle.core_machine.specs.seat.MakingMoves.{claim_move, inside_first_group, give_back_move, refusal_looks, refusal_move}
 use Rattle.core_machine.proofs.call_lemmas.Awaits.{adds_where_none_awaited, after_words, own_list_same_going_on}
-use Rattle.core_machine.proofs.moves.Standing.{PlaceStands, call_place_has_not_left, place_is_aside, CommandStands, ready_is_at_rest}
+use Rattle.core_machine.proofs.moves.Standing.{PointStands, call_point_has_not_left, point_is_aside, CommandStands, ready_is_at_rest}
 use Rattle.core_machine.proofs.seat_lemmas.Aside.{IsAside, left_aside_is_absurd, fits_after_call, fits_with_hand, idle_is_aside}
-use Rattle.core_machine.proofs.seat_lemmas.Fitting.{object_need_within_limits, fits_going_on, refusal_place_fits, goes_on_cases, returning_cases, settled_cases, gathered_at_rest, next_group_within_heap}
+use Rattle.core_machine.proofs.seat_lemmas.Fitting.{object_need_within_limits, fits_going_on, refusal_point_fits, goes_on_cases, returning_cases, settled_cases, gathered_at_rest, next_group_within_heap}
 use Rattle.core_machine.proofs.table_lemmas.Clear.{length-clear_among}
-use Rattle.core_machine.proofs.table_lemmas.Filters.{part_out_is_shorter}
+use Rattle.core_machine.proofs.table_lemmas.Filters.{outside_group_is_shorter}
 use Rattle.core_machine.proofs.table_lemmas.Owned.{fragments_group_within_heap, clear_is_of_group, group_fragments_within_heap}
 use Rattle.core_machine.proofs.table_lemmas.StepStands.{StepStands, load_step_stands, take_back_step_stands}
 
@@ -78,11 +78,11 @@ nears_gathered heap seat more owed steps makes none fewer paid lacking =
     let before = length-append seat.reserve seat.hand in
     let used = length-take (need seat) (fragments_gathered seat) in
     goes_on_cases (λ s. Nears heap (with_entries s more) owed steps (length more)) heap seat
-    (λ enough. settled_cases (λ m. Nears heap (with_entries (record (after_gather heap seat) { place = places.Making m }) more) owed steps (length more)) seat.command
+    (λ enough. settled_cases (λ m. Nears heap (with_entries (record (after_gather heap seat) { point = points.Making m }) more) owed steps (length more)) seat.command
     (λ an_array. record { fewer = omega (arith, used, fewer); paid = omega (arith, paid) })
     (λ other. record { fewer = omega (arith, used, none, fewer); paid = omega (arith, paid) }))
     (λ lacks left. record { fewer = omega (arith, fewer); paid = omega (arith, lacking lacks) })
-    (λ lacks none_left. returning_cases (λ m. Nears heap (with_entries (record seat { place = places.Making m }) more) owed steps (length more)) seat.hand
+    (λ lacks none_left. returning_cases (λ m. Nears heap (with_entries (record seat { point = points.Making m }) more) owed steps (length more)) seat.hand
     (λ empty. record { fewer = omega (arith, fewer, some.0); paid = omega (arith, paid) })
     (λ left. record { fewer = omega (arith, fewer, lacks, before); paid = omega (arith, lacking lacks, lacks, before) }))
 
@@ -104,17 +104,17 @@ going_on_awaits_none heap words number seat more =
     goes_on_cases (λ s. entries_awaited heap words number (with_entries s more) ≡ []) heap seat (λ enough. refl) (λ few left. refl) (λ few all. refl)
 
 -- a group is claimed
-pub place_stands_at_gathering : PlaceStands (places.Making Gathering)
-place_stands_at_gathering heap number seat here =
+pub point_stands_at_gathering : PointStands (points.Making Gathering)
+point_stands_at_gathering heap number seat here =
     let got : ℕ → List ℕ = λ found. clear_in (next_group_of heap seat) found in
     let next : ℕ → Seat = λ found. record seat { hand = seat.hand ++ got found; tried = seat.tried + 1 } in
     let move = claim_move heap number seat in
     record {
       step = record { in_table = next_group_within_heap heap seat here.fits.own.cursor_within; wide = λ found small. or_lt 64 found all_taken small (omega arith); leads = λ found led. tt };
-      fits = λ found small led. fits_claimed heap seat found here.fits (place_is_aside heap number seat (places.Making Gathering) here (λ e. cc) here.way here.answer) here.hand;
+      fits = λ found small led. fits_claimed heap seat found here.fits (point_is_aside heap number seat (points.Making Gathering) here (λ e. cc) here.way here.answer) here.hand;
       near = λ found. nears_claimed heap number seat found here.hand;
       adds = λ now. let found = found_by heap now move.step in
-          adds_where_none_awaited heap now number seat move (own_list_same_going_on heap (next found)) (rw here.placed refl) (going_on_awaits_none heap (after_words heap now number seat move) number (next found) (move.adds found)) refl;
+          adds_where_none_awaited heap now number seat move (own_list_same_going_on heap (next found)) (rw here.point_is refl) (going_on_awaits_none heap (after_words heap now number seat move) number (next found) (move.adds found)) refl;
     }
 
 -- some fragments were given back
@@ -122,31 +122,31 @@ fits_given_back : (heap : Heap) (seat : Seat) → Fits heap seat → IsAside hea
 fits_given_back heap seat fits aside is =
     let group = first_group_of seat.hand in
     let both = length-filter_both (in_group group) (out_of_group group) (λ fragment. refl) seat.hand in
-    fits_with_hand heap seat (part_out group seat.hand) seat.stored seat.tried (seat.given + length (part_in group seat.hand)) (places.Making (refusal_place (part_out group seat.hand))) fits aside
+    fits_with_hand heap seat (outside_group group seat.hand) seat.stored seat.tried (seat.given + length (inside_group group seat.hand)) (points.Making (refusal_point (outside_group group seat.hand))) fits aside
     (All-filter (out_of_group group) (λ fragment. fragment < 16 * heap.groups) seat.hand fits.hand.hand_within)
-    (refusal_place_fits heap (after_give_back seat) (part_out group seat.hand)
+    (refusal_point_fits heap (after_give_back seat) (outside_group group seat.hand)
     (record { makes = is.makes; no_spine = is.no_spine; no_body = is.no_body; none_stored = is.none_stored; all_tried = is.all_tried; too_few = omega (arith, is.too_few) }) refl)
     aside.nowhere aside.silent
 
 nears_given_back : (heap : Heap) (seat : Seat) (entry : Entry) → 0 < length seat.hand
     → Nears heap (with_entries (after_give_back seat) (entry ∷ [])) (length seat.hand + 1) (length seat.hand + 1) 1
 nears_given_back heap seat entry some =
-    let less = part_out_is_shorter (first_group_of seat.hand) seat.hand 0 some refl in
-    returning_cases (λ m. Nears heap (with_entries (record (after_give_back seat) { place = places.Making m }) (entry ∷ [])) (length seat.hand + 1) (length seat.hand + 1) 1)
-    (part_out (first_group_of seat.hand) seat.hand)
+    let less = outside_group_is_shorter (first_group_of seat.hand) seat.hand 0 some refl in
+    returning_cases (λ m. Nears heap (with_entries (record (after_give_back seat) { point = points.Making m }) (entry ∷ [])) (length seat.hand + 1) (length seat.hand + 1) 1)
+    (outside_group (first_group_of seat.hand) seat.hand)
     (λ empty. record { fewer = omega arith; paid = omega arith }) (λ left. record { fewer = omega arith; paid = omega arith })
 
 -- a group is given back
-pub place_stands_at_returning : PlaceStands (places.Making GivingBack)
-place_stands_at_returning heap number seat here = record {
+pub point_stands_at_returning : PointStands (points.Making GivingBack)
+point_stands_at_returning heap number seat here = record {
   step = record {
     in_table = fragments_group_within_heap heap seat.hand 0 here.hand.1 here.fits.hand.hand_within;
-    wide = λ found small. let le = and_le_r found (2 ^ 64 - 1 - mask_of (first_part seat)) in omega arith;
+    wide = λ found small. let le = and_le_r found (2 ^ 64 - 1 - mask_of (inside_first_group seat)) in omega arith;
     leads = λ found led. tt;
   };
-  fits = λ found small led. fits_given_back heap seat here.fits (place_is_aside heap number seat (places.Making GivingBack) here (λ e. cc) here.way here.answer) here.hand.0;
+  fits = λ found small led. fits_given_back heap seat here.fits (point_is_aside heap number seat (points.Making GivingBack) here (λ e. cc) here.way here.answer) here.hand.0;
   near = λ found. nears_given_back heap seat _ here.hand.1;
-  adds = λ now. adds_where_none_awaited heap now number seat (give_back_move number seat) refl (rw here.placed refl) refl refl;
+  adds = λ now. adds_where_none_awaited heap now number seat (give_back_move number seat) refl (rw here.point_is refl) refl refl;
 }
 
 -- the step at which a refusal is told
@@ -155,20 +155,20 @@ refusal_step_stands heap (commands.Array d cells) words = take_back_step_stands 
 refusal_step_stands heap _ words = load_step_stands heap PollLoad refl tt
 
 -- a refusal is told
-pub place_stands_at_refusing : PlaceStands (places.Making Refusing)
-place_stands_at_refusing heap number seat here = record {
+pub point_stands_at_refusing : PointStands (points.Making Refusing)
+point_stands_at_refusing heap number seat here = record {
   step = refusal_step_stands heap seat.command (spine_need seat);
   fits = λ found small led. fits_after_call heap (record seat { looks = refusal_looks seat.command found seat.looks }) here.fits.own.registers_whole here.fits.own.registers_fit here.fits.own.cursor_within here.fits.own.small_reserve
-      here.fits.own.reserve_of_cursor (left_aside_is_absurd (call_place_has_not_left heap number seat (places.Making Refusing) here (λ e. cc)));
+      here.fits.own.reserve_of_cursor (left_aside_is_absurd (call_point_has_not_left heap number seat (points.Making Refusing) here (λ e. cc)));
   near = λ found. record { fewer = omega arith; paid = omega arith };
-  adds = λ now. adds_where_none_awaited heap now number seat (refusal_move number seat) refl (rw here.placed refl) refl refl;
+  adds = λ now. adds_where_none_awaited heap now number seat (refusal_move number seat) refl (rw here.point_is refl) refl refl;
 }
 
 -- a record is to be made
 fits_gathers : (heap : Heap) (seat : Seat) (d fields : ℕ) → Fits heap seat → MayBegin seat (New d fields) → Fits heap (after_begin heap seat (New d fields))
 fits_gathers heap seat d fields fits may =
     fits_going_on heap (record seat { command = New d fields })
-    (gathered_at_rest heap (record seat { command = New d fields }) fits.own (idle_is_aside heap seat fits may.idle may.present) (subst (FitsPlace heap seat) may.idle fits.at_place)
+    (gathered_at_rest heap (record seat { command = New d fields }) fits.own (idle_is_aside heap seat fits may.idle may.present) (subst (FitsPoint heap seat) may.idle fits.at_point)
     (record { an_object = tt; in_range = may.in_range; numbered = may.numbered }))
 
 -- the making of a record begins

@@ -6,10 +6,10 @@ use Rattle.heap_words.specs.declared.kind.Kind.{Kind}
 use Rattle.heap_words.specs.declared.kind.Kind.TheVariants as kinds
 use Rattle.core_machine.proofs.Terms.{Heap, Getting, Naming, Object, Word, found_by, entries_awaited, Fits, FitsRegister, SeatIsAtGet, after_get, Seat, with_entries, head_of}
 use Rattle.core_machine.proofs.Terms.{id_of, plain_of, plain_register, IsWithinHeap, Nears}
-use Rattle.core_machine.specs.declared.place.Place.TheVariants as places
+use Rattle.core_machine.specs.declared.point.Point.TheVariants as points
 use Rattle.core_machine.specs.seat.AccessMoves.{loaded_head_of, got_adds, got_shows, get_move, name_move}
 use Rattle.core_machine.proofs.call_lemmas.Awaits.{after_words}
-use Rattle.core_machine.proofs.moves.Standing.{PlaceStands, access_place_rests}
+use Rattle.core_machine.proofs.moves.Standing.{PointStands, access_point_rests}
 use Rattle.core_machine.proofs.seat_lemmas.FittingAccess.{Rests, fits_at_access, fits_with_register}
 use Rattle.core_machine.proofs.table_lemmas.Addresses.{put_of_read_changes_nothing}
 use Rattle.core_machine.proofs.table_lemmas.StepStands.{load_step_stands}
@@ -44,25 +44,25 @@ module _ (heap : Heap) (number : ℕ) (seat : Seat) where
   got_awaits words found (Some head) is = (refl, rw is refl)
 
 -- the field is loaded
-pub place_stands_at_getting : PlaceStands (places.Access Getting)
-place_stands_at_getting heap number seat here =
+pub point_stands_at_getting : PointStands (points.Access Getting)
+point_stands_at_getting heap number seat here =
     let move = get_move heap number seat in
     record {
       step = load_step_stands heap move.step refl (here.fits.way.reached_within, here.way.0.2.part_within);
-      fits = λ found small led. fits_got heap seat found (head_of found) (access_place_rests heap number seat Getting here) here.way.0 refl (head_leads_within_heap heap seat.part found led);
+      fits = λ found small led. fits_got heap seat found (head_of found) (access_point_rests heap number seat Getting here) here.way.0 refl (head_leads_within_heap heap seat.part found led);
       near = λ found. nears_got heap number seat found (head_of found);
       adds = λ now. let found = found_by heap now move.step in
           let same : after_words heap now number seat move ≡ now.words = put_of_read_changes_nothing heap now.words (Word seat.reached seat.part) in
           let by = got_awaits heap number seat now.words found (head_of found) refl in
-          record { kept = by.0; told = rw (same, here.placed) by.1 };
+          record { kept = by.0; told = rw (same, here.point_is) by.1 };
     }
 
 -- the name is loaded
-pub place_stands_at_naming : PlaceStands (places.Access Naming)
-place_stands_at_naming heap number seat here = record {
+pub point_stands_at_naming : PointStands (points.Access Naming)
+point_stands_at_naming heap number seat here = record {
   step = load_step_stands heap (name_move number seat).step refl (some_fragment_within_heap heap (head_of seat.loaded) here.way.1 here.fits.way.loaded_within, omega arith);
-  fits = λ found small led. fits_with_register heap seat (Object (loaded_head_of seat) (id_of found)) (access_place_rests heap number seat Naming here)
+  fits = λ found small led. fits_with_register heap seat (Object (loaded_head_of seat) (id_of found)) (access_point_rests heap number seat Naming here)
       (some_fragment_within_heap heap (head_of seat.loaded) here.way.1 here.fits.way.loaded_within);
   near = λ found. record { fewer = omega arith; paid = omega arith };
-  adds = λ now. record { kept = refl; told = rw here.placed refl };
+  adds = λ now. record { kept = refl; told = rw here.point_is refl };
 }

@@ -6,12 +6,12 @@ use Rattle.std.proofs.lemmas.Nat.{and_le_r}
 use Rattle.std.specs.List.{All}
 use Rattle.heap_model.specs.declared.command.Command.TheVariants as commands
 use Rattle.core_machine.proofs.Terms.{Heap, Nil, IsAtRest, Fits, FitsRegister, Seat, mask_of}
-use Rattle.core_machine.specs.declared.place.Leaving.TheVariants.{Emptying, Parting}
-use Rattle.core_machine.specs.declared.place.Place.TheVariants as places
+use Rattle.core_machine.specs.declared.point.Leaving.TheVariants.{Emptying, Parting}
+use Rattle.core_machine.specs.declared.point.Point.TheVariants as points
 use Rattle.core_machine.specs.seat.HandshakeMoves.{empty_move, leave_move}
-use Rattle.core_machine.specs.seat.Handshake.{after_emptying, after_leave, leave_place}
+use Rattle.core_machine.specs.seat.Handshake.{after_emptying, after_leave, leave_point}
 use Rattle.core_machine.proofs.call_lemmas.Awaits.{adds_where_none_awaited}
-use Rattle.core_machine.proofs.moves.Standing.{PlaceStands, place_is_aside, BeginStands, CommandStands, ready_is_aside, ready_is_at_rest, resting_begin_stands}
+use Rattle.core_machine.proofs.moves.Standing.{PointStands, point_is_aside, BeginStands, CommandStands, ready_is_aside, ready_is_at_rest, resting_begin_stands}
 use Rattle.core_machine.proofs.seat_lemmas.Aside.{IsAside, left_aside_is_absurd, fits_after_call}
 
 -- the reserve was given back
@@ -27,9 +27,9 @@ fits_emptied heap seat fits aside rest leaves = record {
   hand = fits.hand;
   way = fits.way;
   asked_small = aside.asked_small;
-  at_place = (rest, leaves, refl);
-  way_at_place = aside.nowhere;
-  answer_at_place = aside.silent;
+  at_point = (rest, leaves, refl);
+  way_at_point = aside.nowhere;
+  answer_at_point = aside.silent;
   gone = left_aside_is_absurd aside.present;
 }
 
@@ -44,30 +44,30 @@ fits_parted heap seat fits empty =
     (λ left. empty)
 
 -- the reserve is given back
-pub place_stands_at_emptying : PlaceStands (places.Leaving Emptying)
-place_stands_at_emptying heap number seat here = record {
+pub point_stands_at_emptying : PointStands (points.Leaving Emptying)
+point_stands_at_emptying heap number seat here = record {
   step = record { in_table = here.fits.own.cursor_within; wide = λ found small. let le = and_le_r found (2 ^ 64 - 1 - mask_of seat.reserve) in omega arith; leads = λ found led. tt };
-  fits = λ found small led. fits_emptied heap seat here.fits (place_is_aside heap number seat (places.Leaving Emptying) here (λ e. cc) here.way here.answer) here.hand.0 here.hand.1;
+  fits = λ found small led. fits_emptied heap seat here.fits (point_is_aside heap number seat (points.Leaving Emptying) here (λ e. cc) here.way here.answer) here.hand.0 here.hand.1;
   near = λ found. record { fewer = omega arith; paid = omega arith };
-  adds = λ now. adds_where_none_awaited heap now number seat (empty_move number seat) refl (rw here.placed refl) refl refl;
+  adds = λ now. adds_where_none_awaited heap now number seat (empty_move number seat) refl (rw here.point_is refl) refl refl;
 }
 
 -- the seat leaves
-pub place_stands_at_parting : PlaceStands (places.Leaving Parting)
-place_stands_at_parting heap number seat here = record {
+pub point_stands_at_parting : PointStands (points.Leaving Parting)
+point_stands_at_parting heap number seat here = record {
   step = record { in_table = here.few; wide = λ found small. omega arith; leads = λ found led. tt };
   fits = λ found small led. fits_parted heap seat here.fits here.hand.2;
   near = λ found. record { fewer = omega arith; paid = omega arith };
-  adds = λ now. adds_where_none_awaited heap now number seat (leave_move number seat) refl (rw here.placed refl) refl refl;
+  adds = λ now. adds_where_none_awaited heap now number seat (leave_move number seat) refl (rw here.point_is refl) refl refl;
 }
 
 -- a leave begins
 pub command_stands_for_leave : CommandStands commands.Leave
 command_stands_for_leave heap number seat ready = by seat.reserve refl where
-  by : (reserve : List ℕ) → seat.reserve ≡ reserve → BeginStands heap number seat commands.Leave (record seat { command = commands.Leave; place = places.Leaving (leave_place reserve) })
+  by : (reserve : List ℕ) → seat.reserve ≡ reserve → BeginStands heap number seat commands.Leave (record seat { command = commands.Leave; point = points.Leaving (leave_point reserve) })
   by [] is =
       let aside = ready_is_aside heap number seat commands.Leave ready in
-      resting_begin_stands heap number seat commands.Leave ready (places.Leaving Parting) (ready_is_at_rest heap number seat commands.Leave ready, refl, is) aside.nowhere aside.silent (λ words. refl) (omega arith)
+      resting_begin_stands heap number seat commands.Leave ready (points.Leaving Parting) (ready_is_at_rest heap number seat commands.Leave ready, refl, is) aside.nowhere aside.silent (λ words. refl) (omega arith)
   by (fragment ∷ more) is =
       let aside = ready_is_aside heap number seat commands.Leave ready in
-      resting_begin_stands heap number seat commands.Leave ready (places.Leaving Emptying) (ready_is_at_rest heap number seat commands.Leave ready, refl, rw is (omega arith)) aside.nowhere aside.silent (λ words. refl) (omega arith)
+      resting_begin_stands heap number seat commands.Leave ready (points.Leaving Emptying) (ready_is_at_rest heap number seat commands.Leave ready, refl, rw is (omega arith)) aside.nowhere aside.silent (λ words. refl) (omega arith)

@@ -6,10 +6,10 @@ use Rattle.std.specs.List.{All}
 use Rattle.heap_model.specs.Command.{IsCommand}
 use Rattle.core_machine.proofs.Terms.{Command, Heap, local_move, Register, Nil, Number, PollLoad, Fits, FitsRegister, IsLocal, register_in, Seat, with_seen}
 use Rattle.heap_model.specs.declared.command.Command.TheVariants as commands
-use Rattle.core_machine.specs.declared.place.Place.TheVariants as places
+use Rattle.core_machine.specs.declared.point.Point.TheVariants as points
 use Rattle.core_machine.specs.seat.Local.{after_local, local_registers}
 use Rattle.core_machine.proofs.call_lemmas.Awaits.{adds_where_none_awaited}
-use Rattle.core_machine.proofs.moves.Standing.{PlaceStands, call_place_has_not_left, BeginStands, IsReady, ready_is_aside, ready_is_at_rest, resting_begin_stands}
+use Rattle.core_machine.proofs.moves.Standing.{PointStands, call_point_has_not_left, BeginStands, IsReady, ready_is_aside, ready_is_at_rest, resting_begin_stands}
 use Rattle.core_machine.proofs.seat_lemmas.Aside.{left_aside_is_absurd, fits_after_call}
 use Rattle.core_machine.proofs.table_lemmas.StepStands.{load_step_stands}
 use Rattle.core_machine.proofs.table_lemmas.WithinHeap.{each_register_fits}
@@ -35,17 +35,17 @@ fits_local heap seat found fits present range =
     (local_fit heap seat.registers seat.command range fits.own.registers_fit) fits.own.cursor_within fits.own.small_reserve fits.own.reserve_of_cursor (left_aside_is_absurd present)
 
 -- a reply is told
-pub place_stands_at_local : PlaceStands places.Local
-place_stands_at_local heap number seat here = record {
+pub point_stands_at_local : PointStands points.Local
+point_stands_at_local heap number seat here = record {
   step = load_step_stands heap PollLoad refl tt;
-  fits = λ found small led. fits_local heap seat found here.fits (call_place_has_not_left heap number seat places.Local here (λ e. cc)) here.hand.1;
+  fits = λ found small led. fits_local heap seat found here.fits (call_point_has_not_left heap number seat points.Local here (λ e. cc)) here.hand.1;
   near = λ found. record { fewer = omega arith; paid = omega arith };
-  adds = λ now. adds_where_none_awaited heap now number seat (local_move number seat) refl (rw here.placed refl) refl refl;
+  adds = λ now. adds_where_none_awaited heap now number seat (local_move number seat) refl (rw here.point_is refl) refl refl;
 }
 
 -- a call begins that looks at no word
 pub local_begin_stands : (command : Command) → (heap : Heap) (number : ℕ) (seat : Seat) → IsReady heap seat command → IsLocal seat.registers command
-    → BeginStands heap number seat command (record seat { command = command; place = places.Local })
+    → BeginStands heap number seat command (record seat { command = command; point = points.Local })
 local_begin_stands command heap number seat ready local =
     let aside = ready_is_aside heap number seat command ready in
-    resting_begin_stands heap number seat command ready places.Local (ready_is_at_rest heap number seat command ready, ready.may.in_range, local) aside.nowhere aside.silent (λ words. refl) (omega arith)
+    resting_begin_stands heap number seat command ready points.Local (ready_is_at_rest heap number seat command ready, ready.may.in_range, local) aside.nowhere aside.silent (λ words. refl) (omega arith)

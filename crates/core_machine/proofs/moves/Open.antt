@@ -5,10 +5,10 @@ use Rattle.core_machine.proofs.Terms.{Command, Get, Set, Len, Heap, Reply, Loadi
 use Rattle.core_machine.proofs.Terms.{Fits, FitsRegister, IsLocal, NamesObject, NamesField, SeatIsAtHead, row_of, part_of, with_field_place, after_length, meta_reply_of}
 use Rattle.core_machine.proofs.Terms.{after_meta, access_start, register_head, register_in, Seat, with_entries, pointer_in, array_length_of, IsWithinHeap, Nears}
 use Rattle.heap_model.specs.declared.command.Command.TheVariants as commands
-use Rattle.core_machine.specs.declared.place.Place.TheVariants as places
+use Rattle.core_machine.specs.declared.point.Point.TheVariants as points
 use Rattle.core_machine.specs.seat.AccessMoves.{reply_entries_if, open_move}
 use Rattle.core_machine.proofs.call_lemmas.Awaits.{adds_where_none_awaited, after_words}
-use Rattle.core_machine.proofs.moves.Standing.{PlaceStands, access_place_rests, BeginStands, IsReady, ready_is_aside, ready_is_at_rest}
+use Rattle.core_machine.proofs.moves.Standing.{PointStands, access_point_rests, BeginStands, IsReady, ready_is_aside, ready_is_at_rest}
 use Rattle.core_machine.proofs.moves.Local.{local_begin_stands}
 use Rattle.core_machine.proofs.moves.Walk.{fits_onward, nears_onward, onward_awaits_none, onward_keeps_list}
 use Rattle.core_machine.proofs.seat_lemmas.Aside.{left_aside_is_absurd}
@@ -60,16 +60,16 @@ module _ (heap : Heap) (number : ℕ) (seat : Seat) where
   met_adds words found (Some reply) = (refl, refl)
 
 -- the meta is loaded
-pub place_stands_at_loading_meta : PlaceStands (places.Access LoadingMeta)
-place_stands_at_loading_meta heap number seat here =
+pub point_stands_at_loading_meta : PointStands (points.Access LoadingMeta)
+point_stands_at_loading_meta heap number seat here =
     let move = open_move number seat in
     record {
       step = load_step_stands heap move.step refl (here.fits.way.reached_within, omega arith);
-      fits = λ found small led. fits_met heap seat found (meta_reply_of seat.command found) (access_place_rests heap number seat LoadingMeta here) here.way refl led;
+      fits = λ found small led. fits_met heap seat found (meta_reply_of seat.command found) (access_point_rests heap number seat LoadingMeta here) here.way refl led;
       near = λ found. nears_met heap number seat found (meta_reply_of seat.command found);
       adds = λ now. let found = found_by heap now move.step in
           let by = met_adds heap number seat (after_words heap now number seat move) found (meta_reply_of seat.command found) in
-          adds_where_none_awaited heap now number seat move by.0 (rw here.placed refl) by.1 refl;
+          adds_where_none_awaited heap now number seat move by.0 (rw here.point_is refl) by.1 refl;
     }
 
 -- a command on an object that its register doesn't hold looks at no word
@@ -98,8 +98,8 @@ begin_stands_at_access command names heap number seat ready = by (register_in se
             loaded_within = ready.fits.way.loaded_within;
           };
           asked_small = ready.fits.asked_small;
-          at_place = ready_is_at_rest heap number seat command ready;
-          way_at_place = record {
+          at_point = ready_is_at_rest heap number seat command ready;
+          way_at_point = record {
             works = record { in_range = ready.may.in_range; numbered = ready.may.numbered; holds = subst IsSome (sym (ap register_head is)) refl };
             names = names;
             at_head = ap register_head is;
@@ -107,7 +107,7 @@ begin_stands_at_access command names heap number seat ready = by (register_in se
             no_part = aside.nowhere.no_part;
             none_loaded = aside.nowhere.none_loaded;
           };
-          answer_at_place = aside.silent;
+          answer_at_point = aside.silent;
           gone = left_aside_is_absurd ready.may.present;
         };
         kept = refl;

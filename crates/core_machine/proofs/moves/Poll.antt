@@ -2,16 +2,16 @@
 use Rattle.std.proofs.Common.{◌≡◌, ℕ, ◌+◌, ◌-◌, ◌^◌, ◌<◌, ◌≤◌, false, [], length, inl, inr, refl, sym, subst, arith, List, ◌∷◌, get_or, suc, ◌≢◌}
 use Rattle.std.proofs.lemmas.Bool.Decides.{eqb_tells, leb_tells}
 use Rattle.heap_model.specs.declared.command.Command.TheVariants as commands
-use Rattle.core_machine.proofs.Terms.{Entry, Answers, Heap, seat_after, Place, PollLoad, found_by, entries_awaited, FitsPlace, FitsWay, FitsAnswer, IsAtRest, AnswersThePhase, Fits}
+use Rattle.core_machine.proofs.Terms.{Entry, Answers, Heap, seat_after, Point, PollLoad, found_by, entries_awaited, FitsPoint, FitsWay, FitsAnswer, IsAtRest, AnswersThePhase, Fits}
 use Rattle.core_machine.proofs.Terms.{IsNowhere, Seat, with_seen, after_call, with_entries, Nears}
-use Rattle.core_machine.specs.declared.place.Place.TheVariants as places
-use Rattle.core_machine.specs.declared.place.Polling.{Polling}
-use Rattle.core_machine.specs.declared.place.Polling.TheVariants.{Asking, Shading, Answering}
+use Rattle.core_machine.specs.declared.point.Point.TheVariants as points
+use Rattle.core_machine.specs.declared.point.Polling.{Polling}
+use Rattle.core_machine.specs.declared.point.Polling.TheVariants.{Asking, Shading, Answering}
 use Rattle.core_machine.specs.seat.HandshakeMoves.{poll_move, root_move, answer_move}
 use Rattle.core_machine.proofs.seat_lemmas.PollingOver.{polling_over_cases}
 use Rattle.core_machine.specs.seat.Handshake.{polling_over, after_phase_load, after_root_shade, after_answer, roots, answer_next}
 use Rattle.core_machine.proofs.call_lemmas.Awaits.{adds_where_none_awaited, after_words}
-use Rattle.core_machine.proofs.moves.Standing.{IsAt, PlaceStands, call_place_has_not_left, CommandStands, ready_is_aside, ready_is_at_rest, resting_begin_stands}
+use Rattle.core_machine.proofs.moves.Standing.{IsAt, PointStands, call_point_has_not_left, CommandStands, ready_is_aside, ready_is_at_rest, resting_begin_stands}
 use Rattle.core_machine.proofs.seat_lemmas.Aside.{left_aside_is_absurd, fits_after_call, fits_when_over}
 use Rattle.core_machine.proofs.table_lemmas.StepStands.{load_step_stands, shade_step_stands}
 use Rattle.core_machine.proofs.table_lemmas.WithinHeap.{roots_within_heap, roots_within_register_count}
@@ -24,23 +24,23 @@ pub record Polls (heap : Heap) (seat : Seat) : Type 0 where
   present : seat.left ≡ false
   polls : AnswersThePhase seat.command
 
--- the seat with other answers, at a place that they fit
-abbrev answering : Seat → ℕ → ℕ → ℕ → Place → Seat
-answering seat answered asked shaded place = record seat { answered = answered; asked = asked; shaded = shaded; place = place }
+-- the seat with other answers, at a point that they fit
+abbrev answering : Seat → ℕ → ℕ → ℕ → Point → Seat
+answering seat answered asked shaded point = record seat { answered = answered; asked = asked; shaded = shaded; point = point }
 
-fits_answering : (heap : Heap) (seat : Seat) (answered asked shaded : ℕ) (place : Place) → Polls heap seat → asked < 2 ^ 64
-    → FitsPlace heap (answering seat answered asked shaded place) place → FitsWay (answering seat answered asked shaded place) place
-    → FitsAnswer (answering seat answered asked shaded place) place → Fits heap (answering seat answered asked shaded place)
-fits_answering heap seat answered asked shaded place polls small at_place way answer =
+fits_answering : (heap : Heap) (seat : Seat) (answered asked shaded : ℕ) (point : Point) → Polls heap seat → asked < 2 ^ 64
+    → FitsPoint heap (answering seat answered asked shaded point) point → FitsWay (answering seat answered asked shaded point) point
+    → FitsAnswer (answering seat answered asked shaded point) point → Fits heap (answering seat answered asked shaded point)
+fits_answering heap seat answered asked shaded point polls small at_point way answer =
     let fits = polls.fits in
     record {
       own = fits.own;
       hand = fits.hand;
       way = fits.way;
       asked_small = small;
-      at_place = at_place;
-      way_at_place = way;
-      answer_at_place = answer;
+      at_point = at_point;
+      way_at_point = way;
+      answer_at_point = answer;
       gone = left_aside_is_absurd polls.present;
     }
 
@@ -48,13 +48,13 @@ fits_answering heap seat answered asked shaded place polls small at_place way an
 fits_polling : (heap : Heap) (seat : Seat) (asked shaded : ℕ) → Polls heap seat → asked < 2 ^ 64 → asked ≢ seat.answered
     → shaded ≤ length (roots (record seat { asked = asked; shaded = shaded })) → Fits heap (answer_next (record seat { asked = asked; shaded = shaded }))
 fits_polling heap seat asked shaded polls small anew few =
-    fits_answering heap seat seat.answered asked shaded next.place polls small polls.rest polls.nowhere answer
+    fits_answering heap seat seat.answered asked shaded next.point polls small polls.rest polls.nowhere answer
   where
     next : Seat
     next = answer_next (record seat { asked = asked; shaded = shaded })
 
-    answer : FitsAnswer next next.place
-    answer = elim (leb_tells (suc shaded) (length (roots (record seat { asked = asked; shaded = shaded })))) as (λ _. FitsAnswer next next.place) [
+    answer : FitsAnswer next next.point
+    answer = elim (leb_tells (suc shaded) (length (roots (record seat { asked = asked; shaded = shaded })))) as (λ _. FitsAnswer next next.point) [
       | inl more ↦ rw more.0 (record { polls = polls.polls; anew = anew }, more.1)
       | inr all ↦ rw all.0 (record { polls = polls.polls; anew = anew }, omega (arith, all.1, few))
     ]
@@ -84,23 +84,23 @@ fits_shaded heap seat polls anew more = fits_polling heap seat seat.asked (seat.
 fits_stored_answer : (heap : Heap) (seat : Seat) → Polls heap seat → Fits heap (after_answer seat)
 fits_stored_answer heap seat polls = fits_answered heap seat seat.asked polls
 
-polls_at : (heap : Heap) (number : ℕ) (seat : Seat) (place : Polling) → IsAt heap number seat (places.Polling place) → AnswersThePhase seat.command → Polls heap seat
-polls_at heap number seat place here polls =
-    record { fits = here.fits; rest = here.hand; nowhere = here.way; present = call_place_has_not_left heap number seat (places.Polling place) here (λ e. cc); polls = polls }
+polls_at : (heap : Heap) (number : ℕ) (seat : Seat) (point : Polling) → IsAt heap number seat (points.Polling point) → AnswersThePhase seat.command → Polls heap seat
+polls_at heap number seat point here polls =
+    record { fits = here.fits; rest = here.hand; nowhere = here.way; present = call_point_has_not_left heap number seat (points.Polling point) here (λ e. cc); polls = polls }
 
 -- the seat has loaded the phase
-seen_at : (heap : Heap) (number : ℕ) (seat : Seat) (found : ℕ) → IsAt heap number seat (places.Polling Asking) → Polls heap (with_seen found seat)
+seen_at : (heap : Heap) (number : ℕ) (seat : Seat) (found : ℕ) → IsAt heap number seat (points.Polling Asking) → Polls heap (with_seen found seat)
 seen_at heap number seat found here =
-    let present = call_place_has_not_left heap number seat (places.Polling Asking) here (λ e. cc) in
+    let present = call_point_has_not_left heap number seat (points.Polling Asking) here (λ e. cc) in
     record {
       fits = record {
         own = here.fits.own;
         hand = here.fits.hand;
         way = here.fits.way;
         asked_small = here.fits.asked_small;
-        at_place = subst (FitsPlace heap (with_seen found seat)) (sym here.placed) here.hand;
-        way_at_place = subst (FitsWay (with_seen found seat)) (sym here.placed) here.way;
-        answer_at_place = subst (FitsAnswer (with_seen found seat)) (sym here.placed) here.answer;
+        at_point = subst (FitsPoint heap (with_seen found seat)) (sym here.point_is) here.hand;
+        way_at_point = subst (FitsWay (with_seen found seat)) (sym here.point_is) here.way;
+        answer_at_point = subst (FitsAnswer (with_seen found seat)) (sym here.point_is) here.answer;
         gone = left_aside_is_absurd present;
       };
       rest = here.hand;
@@ -136,8 +136,8 @@ module _ (heap : Heap) (number : ℕ) (seat : Seat) where
       ]
 
 -- the phase is loaded
-pub place_stands_at_poll_asking : PlaceStands (places.Polling Asking)
-place_stands_at_poll_asking heap number seat here =
+pub point_stands_at_poll_asking : PointStands (points.Polling Asking)
+point_stands_at_poll_asking heap number seat here =
     let move = poll_move number seat in
     record {
       step = load_step_stands heap PollLoad refl tt;
@@ -145,21 +145,21 @@ place_stands_at_poll_asking heap number seat here =
       near = λ found. nears_phase heap number seat found;
       adds = λ now. let found = found_by heap now move.step in
           let by = phase_adds heap number (with_seen found seat) (after_words heap now number seat move) found (move.adds found) in
-          adds_where_none_awaited heap now number seat move by.0 (rw here.placed refl) by.1 refl;
+          adds_where_none_awaited heap now number seat move by.0 (rw here.point_is refl) by.1 refl;
     }
 
 -- a root is shaded
-pub place_stands_at_shading : PlaceStands (places.Polling Shading)
-place_stands_at_shading heap number seat here = record {
+pub point_stands_at_shading : PointStands (points.Polling Shading)
+point_stands_at_shading heap number seat here = record {
   step = shade_step_stands heap (get_or (roots seat) seat.shaded 0) (roots_within_heap heap seat seat.shaded here.fits here.answer.1);
   fits = λ found small led. fits_shaded heap seat (polls_at heap number seat Shading here here.answer.0.polls) here.answer.0.anew here.answer.1;
   near = λ found. nears_shades_on heap (record seat { shaded = seat.shaded + 1 }) ((length (roots seat) - seat.shaded) + 1) (omega (arith, here.answer.1));
-  adds = λ now. adds_where_none_awaited heap now number seat (root_move seat) refl (rw here.placed refl) refl refl;
+  adds = λ now. adds_where_none_awaited heap now number seat (root_move seat) refl (rw here.point_is refl) refl refl;
 }
 
 -- the answer is stored
-pub place_stands_at_answering : PlaceStands (places.Polling Answering)
-place_stands_at_answering heap number seat here = record {
+pub point_stands_at_answering : PointStands (points.Polling Answering)
+point_stands_at_answering heap number seat here = record {
   step = record { in_table = here.few; wide = λ found small. here.fits.asked_small; leads = λ found led. tt };
   fits = λ found small led. fits_stored_answer heap seat (polls_at heap number seat Answering here here.answer.0.polls);
   near = λ found. polling_over_cases (λ s more. Nears heap (with_entries s (Answers number seat.asked ∷ more)) 2 1 (suc (length more))) number seat.command stored seat.asked
@@ -167,7 +167,7 @@ place_stands_at_answering heap number seat here = record {
   adds = λ now.
       let words = after_words heap now number seat (answer_move number seat) in
       let by = polling_over_cases (λ s more. (s.mine ≡ seat.mine) × (entries_awaited heap words number (with_entries s (Answers number seat.asked ∷ more)) ≡ [])) number seat.command stored seat.asked (λ collects. (refl, refl)) (λ tells. (refl, refl)) in
-      adds_where_none_awaited heap now number seat (answer_move number seat) by.0 (rw here.placed refl) by.1 refl;
+      adds_where_none_awaited heap now number seat (answer_move number seat) by.0 (rw here.point_is refl) by.1 refl;
 }
   where
     stored : Seat
@@ -177,4 +177,4 @@ place_stands_at_answering heap number seat here = record {
 pub command_stands_for_poll : CommandStands commands.Poll
 command_stands_for_poll heap number seat ready =
     let aside = ready_is_aside heap number seat commands.Poll ready in
-    resting_begin_stands heap number seat commands.Poll ready (places.Polling Asking) (ready_is_at_rest heap number seat commands.Poll ready) aside.nowhere (aside.silent, tt) (λ words. refl) (omega arith)
+    resting_begin_stands heap number seat commands.Poll ready (points.Polling Asking) (ready_is_at_rest heap number seat commands.Poll ready) aside.nowhere (aside.silent, tt) (λ words. refl) (omega arith)

@@ -10,16 +10,16 @@ use Rattle.core_machine.proofs.Terms.{StandsOn, AnswersFirst, ComesFirst, IsAnsw
 use Rattle.core_machine.proofs.Terms.{with_seen, after_call, with_entries}
 use Rattle.heap_model.specs.declared.command.Command.TheVariants as commands
 use Rattle.heap_model.specs.declared.reply.Reply.TheVariants as replies
-use Rattle.core_machine.specs.declared.place.Leaving.TheVariants.{Emptying, Parting}
-use Rattle.core_machine.specs.declared.place.Place.TheVariants as places
-use Rattle.core_machine.specs.declared.place.Polling.TheVariants.{Asking, Shading, Answering}
+use Rattle.core_machine.specs.declared.point.Leaving.TheVariants.{Emptying, Parting}
+use Rattle.core_machine.specs.declared.point.Point.TheVariants as points
+use Rattle.core_machine.specs.declared.point.Polling.TheVariants.{Asking, Shading, Answering}
 use Rattle.core_machine.specs.declared.step.Step.TheVariants as steps
 use Rattle.core_machine.specs.seat.Handshake.{roots, answer_next, after_phase_load}
 use Rattle.core_machine.specs.seat.HandshakeMoves.{poll_adds, empty_move, leave_move}
 use Rattle.core_machine.specs.seat.Local.{answer_of, local_reply_of}
 use Rattle.core_machine.specs.seat.Looks.{forgotten}
 use Rattle.core_machine.proofs.call_lemmas.RepliesAlone.{local_replies_alone}
-use Rattle.core_machine.proofs.own_stages.Leading.{PlaceLeads, holds_with_nothing_told, holds_of_untold, reply_alone_answers}
+use Rattle.core_machine.proofs.own_stages.Leading.{PointLeads, holds_with_nothing_told, holds_of_untold, reply_alone_answers}
 use Rattle.core_machine.proofs.seat_lemmas.PollingOver.{polling_over_cases}
 use Rattle.core_machine.proofs.table_lemmas.Bits.{true_or_false}
 
@@ -54,8 +54,8 @@ module _ (tells : Step → ℕ → Type 0) where
   local_stands heap number _ before kept local answers = absurd local
 
   -- the reply was told
-  pub place_leads_at_local : PlaceLeads tells places.Local
-  place_leads_at_local heap number before seat told here stage found tell =
+  pub point_leads_at_local : PointLeads tells points.Local
+  point_leads_at_local heap number before seat told here stage found tell =
       let last = kept_of ((local_move number seat).told found) in
       let reply = local_reply_of seat.registers seat.command in
       record {
@@ -68,10 +68,10 @@ module _ (tells : Step → ℕ → Type 0) where
 
   -- an answer is under way, whatever comes next
   asked_stage : (heap : Heap) (number : ℕ) (before : Kept) (seat : Seat) (told : List Entry) → seat.command ≡ commands.Poll → HasAsked tells before (kept_of seat) seat.asked told
-      → StageAt tells heap number before (with_entries (answer_next seat) []) (told ++ []) (answer_next seat).place
+      → StageAt tells heap number before (with_entries (answer_next seat) []) (told ++ []) (answer_next seat).point
   asked_stage heap number before seat told polls asked =
       let still = holds_with_nothing_told (HasAsked tells before (kept_of seat) seat.asked) told asked in
-      elim (true_or_false (nat_lt seat.shaded (length (roots seat)))) as (λ _. StageAt tells heap number before (with_entries (answer_next seat) []) (told ++ []) (answer_next seat).place) [
+      elim (true_or_false (nat_lt seat.shaded (length (roots seat)))) as (λ _. StageAt tells heap number before (with_entries (answer_next seat) []) (told ++ []) (answer_next seat).point) [
         | inl more ↦ rw more (polls, still)
         | inr all ↦ rw all (polls, still)
       ]
@@ -90,8 +90,8 @@ module _ (tells : Step → ℕ → Type 0) where
   }
 
   -- the phase was loaded
-  pub place_leads_at_poll_asking : PlaceLeads tells (places.Polling Asking)
-  place_leads_at_poll_asking heap number before seat told here stage found tell = record {
+  pub point_leads_at_poll_asking : PointLeads tells (points.Polling Asking)
+  point_leads_at_poll_asking heap number before seat told here stage found tell = record {
     kept = elim (eqb_tells found seat.answered) as (λ _. (after_phase_load seen found).mine ≡ seat.mine) [
       | inl known ↦ rw known.0 (polling_over_cases (λ s more. s.mine ≡ seat.mine) number seat.command seen found (λ collects. refl) (λ tells_. refl))
       | inr new ↦ rw new.0 refl
@@ -100,8 +100,8 @@ module _ (tells : Step → ℕ → Type 0) where
       | inl known ↦ rw known.0 (polling_over_cases (λ s more. s.command ≡ seat.command) number seat.command seen found (λ collects. refl) (λ tells_. refl))
       | inr new ↦ rw new.0 refl
     ];
-    stage = elim (eqb_tells found seat.answered) as (λ _. StageAt tells heap number before (with_entries (after_phase_load seen found) (poll_adds number seat found)) (told ++ poll_adds number seat found) (after_phase_load seen found).place) [
-      | inl known ↦ rw known.0 (polling_over_cases (λ s more. StageAt tells heap number before (with_entries s more) (told ++ more) s.place) number seat.command seen found
+    stage = elim (eqb_tells found seat.answered) as (λ _. StageAt tells heap number before (with_entries (after_phase_load seen found) (poll_adds number seat found)) (told ++ poll_adds number seat found) (after_phase_load seen found).point) [
+      | inl known ↦ rw known.0 (polling_over_cases (λ s more. StageAt tells heap number before (with_entries s more) (told ++ more) s.point) number seat.command seen found
           (λ collects. absurd (no_collect seat.command collects stage.0))
           (λ tells_. holds_of_untold (λ b t. IsAnswered tells heap number seat.command b (kept_of (after_call seen)) (t ++ Said number seat.command (replies.Phase found) ∷ [])) stage.1
           (answered_poll heap number seat.command (kept_of seat) (kept_of (after_call seen)) found [] stage.0 tell tt (inl (known.1, refl))
@@ -115,13 +115,13 @@ module _ (tells : Step → ℕ → Type 0) where
       seen = with_seen found seat
 
   -- a root was shaded
-  pub place_leads_at_shading : PlaceLeads tells (places.Polling Shading)
-  place_leads_at_shading heap number before seat told here stage found tell =
+  pub point_leads_at_shading : PointLeads tells (points.Polling Shading)
+  point_leads_at_shading heap number before seat told here stage found tell =
       record { kept = refl; same = refl; stage = asked_stage heap number before (record seat { shaded = seat.shaded + 1 }) told stage.0 stage.1 }
 
   -- the answer was stored
-  pub place_leads_at_answering : PlaceLeads tells (places.Polling Answering)
-  place_leads_at_answering heap number before seat told here stage found tell =
+  pub point_leads_at_answering : PointLeads tells (points.Polling Answering)
+  point_leads_at_answering heap number before seat told here stage found tell =
       let asked = stage.1 in
       let answer = Answers number seat.asked in
       let stored : Seat = record seat { answered = seat.asked } in
@@ -129,7 +129,7 @@ module _ (tells : Step → ℕ → Type 0) where
       record {
         kept = polling_over_cases (λ s more. s.mine ≡ seat.mine) number seat.command stored seat.asked (λ collects. refl) (λ tells_. refl);
         same = polling_over_cases (λ s more. s.command ≡ seat.command) number seat.command stored seat.asked (λ collects. refl) (λ tells_. refl);
-        stage = polling_over_cases (λ s more. StageAt tells heap number before (with_entries s (answer ∷ more)) (told ++ answer ∷ more) s.place) number seat.command stored seat.asked
+        stage = polling_over_cases (λ s more. StageAt tells heap number before (with_entries s (answer ∷ more)) (told ++ answer ∷ more) s.point) number seat.command stored seat.asked
             (λ collects. absurd (no_collect seat.command collects stage.0))
             (λ tells_. subst (λ (t : List Entry). IsAnswered tells heap number seat.command before (kept_of (after_call stored)) (t ++ answer ∷ Said number seat.command (replies.Phase seat.asked) ∷ [])) (sym asked.none_told)
             (answered_poll heap number seat.command before (kept_of (after_call stored)) seat.asked (answer ∷ []) stage.0 asked.told_of (refl, tt) (inr (anew, refl))
@@ -137,8 +137,8 @@ module _ (tells : Step → ℕ → Type 0) where
       }
 
   -- the reserve was given back
-  pub place_leads_at_emptying : PlaceLeads tells (places.Leaving Emptying)
-  place_leads_at_emptying heap number before seat told here stage found tell = record {
+  pub point_leads_at_emptying : PointLeads tells (points.Leaving Emptying)
+  point_leads_at_emptying heap number before seat told here stage found tell = record {
     kept = refl;
     same = refl;
     stage = holds_of_untold (λ b t. HasEmptied number b (kept_of ((empty_move number seat).told found)) (t ++ GivesBack number (length seat.reserve) ∷ [])) stage
@@ -146,8 +146,8 @@ module _ (tells : Step → ℕ → Type 0) where
   }
 
   -- the seat has left
-  pub place_leads_at_parting : PlaceLeads tells (places.Leaving Parting)
-  place_leads_at_parting heap number before seat told here stage found tell =
+  pub point_leads_at_parting : PointLeads tells (points.Leaving Parting)
+  point_leads_at_parting heap number before seat told here stage found tell =
       let last = kept_of ((leave_move number seat).told found) in
       let left : HasLeft before last = ap (λ (k : Kept). kept_replied seat.looks.seen (record k { registers = replicate register_count Nil; left = true })) stage.kept_is in
       record {

@@ -1,10 +1,10 @@
 -- A call begins, by the seat's own view.
 use Rattle.std.proofs.Common.{◌≡◌, ℕ, List, [], ◌∷◌, refl, sym, ap, subst, ◌∙◌, append-nil}
 use Rattle.core_machine.proofs.Terms.{IsHeap, Command, Entry, Heap, kept_of, IsUntold, StageAt, OwnStage, Register, Nil, Number, Object, Step, MayBegin, after_begin, access_start}
-use Rattle.core_machine.proofs.Terms.{IsArrayCall, IsAtRest, FitsPlace, Fits, gather_next, register_in, Seat, with_entries}
+use Rattle.core_machine.proofs.Terms.{IsArrayCall, IsAtRest, FitsPoint, Fits, gather_next, register_in, Seat, with_entries}
 use Rattle.heap_model.specs.declared.command.Command.TheVariants as commands
-use Rattle.core_machine.specs.declared.place.Place.TheVariants as places
-use Rattle.core_machine.specs.seat.Handshake.{leave_place}
+use Rattle.core_machine.specs.declared.point.Point.TheVariants as points
+use Rattle.core_machine.specs.seat.Handshake.{leave_point}
 use Rattle.core_machine.proofs.call_lemmas.Awaits.{own_list_same_going_on}
 use Rattle.core_machine.proofs.own_stages.Claiming.{gathers_without_claim}
 use Rattle.core_machine.proofs.own_stages.Gather.{going_on_keeps_command, stage_stands_going_on}
@@ -25,20 +25,20 @@ module _ (tells : Step → ℕ → Type 0) (heap : Heap) (number : ℕ) (old : S
   opens command (Object head id) = record { same = refl; mine = sym (append-nil old.mine); stage = (first, tt) }
 
   -- a record is gathered
-  gathers : (command : Command) → Fits heap old → old.place ≡ places.Idle → (IsArrayCall command → ⊥) → OwnStage tells heap number command old (gather_next heap (record old { command = command })) []
+  gathers : (command : Command) → Fits heap old → old.point ≡ points.Idle → (IsArrayCall command → ⊥) → OwnStage tells heap number command old (gather_next heap (record old { command = command })) []
   gathers command fits idle no_array =
-      let rest : IsAtRest old = subst (FitsPlace heap old) idle fits.at_place in
+      let rest : IsAtRest old = subst (FitsPoint heap old) idle fits.at_point in
       let next : Seat = record old { command = command } in
       record {
         same = going_on_keeps_command heap next;
         mine = own_list_same_going_on heap next ∙ sym (append-nil old.mine);
-        stage = subst (λ (s : Seat). StageAt tells heap number (kept_of old) s [] (gather_next heap next).place) (with_none (gather_next heap next))
+        stage = subst (λ (s : Seat). StageAt tells heap number (kept_of old) s [] (gather_next heap next).point) (with_none (gather_next heap next))
             (stage_stands_going_on tells heap number next [] [] rest.none_given rest.none_stored
             (gathers_without_claim tells heap number command (kept_of old) old.hand old.tried [] (λ an_array. absurd (no_array an_array)) fits.own.small_reserve rest.empty_hand rest.none_tried refl));
       }
 
   -- a leave gives back a reserve first
-  leaves : (reserve : List ℕ) → old.reserve ≡ reserve → OwnStage tells heap number commands.Leave old (record old { command = commands.Leave; place = places.Leaving (leave_place reserve) }) []
+  leaves : (reserve : List ℕ) → old.reserve ≡ reserve → OwnStage tells heap number commands.Leave old (record old { command = commands.Leave; point = points.Leaving (leave_point reserve) }) []
   leaves [] is = record {
     same = refl;
     mine = sym (append-nil old.mine);

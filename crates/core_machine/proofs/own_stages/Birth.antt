@@ -5,7 +5,7 @@ use Rattle.std.specs.List.{All, AllByRecursion}
 use Rattle.heap_words.specs.declared.spot.Spot.{Spot}
 use Rattle.core_machine.proofs.Terms.{spine_need_of, Command, Array, IsBeside, Entry, Heap, is_last_birth, birth_move, last_birth_move, bearing_move, bears_black_of, Kept, kept_of}
 use Rattle.core_machine.proofs.Terms.{kept_replied, WasMade, StageAt, Placing, Listing, Storing, Bearing, Object, Step, IsArrayCall, target_of, SpineIsListed, newborn_word}
-use Rattle.core_machine.proofs.Terms.{after_placing, after_listing, after_store, store_place, last_group_of, before_run, run_of, next_object_id, Seat, spine_need, with_entries}
+use Rattle.core_machine.proofs.Terms.{after_placing, after_listing, after_store, store_point, last_group_of, before_run, run_of, next_object_id, Seat, spine_need, with_entries}
 use Rattle.core_machine.proofs.Terms.{mask_of}
 use Rattle.heap_model.specs.Needs.{need_of}
 use Rattle.core_machine.proofs.moves.Standing.{IsAt}
@@ -14,13 +14,13 @@ use Rattle.heap_model.specs.declared.id.Id.TheVariants.{Made}
 use Rattle.heap_model.specs.declared.reply.Reply.TheVariants as replies
 use Rattle.core_machine.specs.Moves.{store_move}
 use Rattle.core_machine.specs.calls.Making.{name_after, HasSpine, HasStored, AreBorn, HasBorn}
-use Rattle.core_machine.specs.declared.place.Place.TheVariants as places
+use Rattle.core_machine.specs.declared.point.Point.TheVariants as points
 use Rattle.core_machine.specs.declared.step.MakingStep.TheVariants.{NewbornStore, LastBirth}
 use Rattle.core_machine.specs.declared.step.SpineStep.TheVariants.{SpineStore}
 use Rattle.core_machine.specs.declared.step.Step.TheVariants as steps
 use Rattle.core_machine.proofs.call_lemmas.Claiming.{claims_before_made}
 use Rattle.core_machine.proofs.own_stages.Claiming.{takes_beside, object_entries_come_first}
-use Rattle.core_machine.proofs.own_stages.Leading.{Leads, LeadsOn, PlaceLeads, holds_with_nothing_told}
+use Rattle.core_machine.proofs.own_stages.Leading.{Leads, LeadsOn, PointLeads, holds_with_nothing_told}
 use Rattle.core_machine.proofs.seat_lemmas.Fitting.{listing_cases}
 use Rattle.core_machine.proofs.seat_lemmas.LastRun.{before_run_and_run_make_all, run_is_of_last_group, run_is_whole_hand}
 use Rattle.core_machine.proofs.table_lemmas.Bits.{true_or_false}
@@ -32,19 +32,19 @@ listed_of_array _ spine listed an_array is = absurd an_array
 
 module _ (tells : Step → ℕ → Type 0) where
   -- the spine got its place
-  pub place_leads_at_placing : PlaceLeads tells (places.Making Placing)
-  place_leads_at_placing heap number before seat told here stage found tell =
+  pub point_leads_at_placing : PointLeads tells (points.Making Placing)
+  point_leads_at_placing heap number before seat told here stage found tell =
       let none = here.hand.1.none_listed in
       record {
         kept = refl;
         same = refl;
-        stage = holds_with_nothing_told (λ t. StageAt tells heap number before (with_entries (after_placing seat found) []) t (places.Making Listing)) told
+        stage = holds_with_nothing_told (λ t. StageAt tells heap number before (with_entries (after_placing seat found) []) t (points.Making Listing)) told
             (stage, record { word = found; told = tell; place_is = refl; lists = λ k below. absurd (omega (arith, none, below)) });
       }
 
   -- a word of the spine was stored
-  pub place_leads_at_listing : PlaceLeads tells (places.Making Listing)
-  place_leads_at_listing heap number before seat told here stage found tell =
+  pub point_leads_at_listing : PointLeads tells (points.Making Listing)
+  point_leads_at_listing heap number before seat told here stage found tell =
       let unstored = here.hand.0.2.none_stored in
       let spine : HasSpine tells seat.command seat.body seat.spine (seat.listed + 1) = record {
         word = stage.1.word;
@@ -55,15 +55,15 @@ module _ (tells : Step → ℕ → Type 0) where
       record {
         kept = refl;
         same = refl;
-        stage = listing_cases (λ m. StageAt tells heap number before (with_entries (record (after_listing seat) { place = places.Making m }) []) (told ++ []) (places.Making m)) (seat.listed + 1) (spine_need seat)
-            (λ more. holds_with_nothing_told (λ t. StageAt tells heap number before (with_entries (record (after_listing seat) { place = places.Making Listing }) []) t (places.Making Listing)) told (stage.0, spine))
-            (λ all. holds_with_nothing_told (λ t. StageAt tells heap number before (with_entries (record (after_listing seat) { place = places.Making Storing }) []) t (places.Making Storing)) told
+        stage = listing_cases (λ m. StageAt tells heap number before (with_entries (record (after_listing seat) { point = points.Making m }) []) (told ++ []) (points.Making m)) (seat.listed + 1) (spine_need seat)
+            (λ more. holds_with_nothing_told (λ t. StageAt tells heap number before (with_entries (record (after_listing seat) { point = points.Making Listing }) []) t (points.Making Listing)) told (stage.0, spine))
+            (λ all. holds_with_nothing_told (λ t. StageAt tells heap number before (with_entries (record (after_listing seat) { point = points.Making Storing }) []) t (points.Making Storing)) told
             (stage.0, λ an_array. spine, λ k below. absurd (omega (arith, unstored, below))));
       }
 
   -- a word of the object was stored
-  pub place_leads_at_storing : PlaceLeads tells (places.Making Storing)
-  place_leads_at_storing heap number before seat told here stage found tell =
+  pub point_leads_at_storing : PointLeads tells (points.Making Storing)
+  point_leads_at_storing heap number before seat told here stage found tell =
       let made : seat.made ≡ before.made = ap (λ (k : Kept). k.made) stage.0.kept_is in
       let Stored : ℕ → ℕ → Type 0 = λ m k. WasMade tells (steps.Making (NewbornStore (get_or seat.body (k / 4) 0) (k % 4) (newborn_word seat.command (name_after number m) seat.spine seat.body (k / 4) (k % 4)))) in
       let stored : HasStored tells seat.command (name_after number before.made) seat.spine seat.body (seat.stored + 1) =
@@ -72,15 +72,15 @@ module _ (tells : Step → ℕ → Type 0) where
       record {
         kept = refl;
         same = refl;
-        stage = elim (eqb_tells (seat.stored + 1) (4 * length seat.body)) as (λ _. StageAt tells heap number before (with_entries (after_store seat) []) (told ++ []) (places.Making (store_place (seat.stored + 1) seat.body))) [
-          | inl all ↦ rw all.0 (holds_with_nothing_told (λ t. StageAt tells heap number before (with_entries (record next { place = places.Making Bearing }) []) t (places.Making Bearing)) told
+        stage = elim (eqb_tells (seat.stored + 1) (4 * length seat.body)) as (λ _. StageAt tells heap number before (with_entries (after_store seat) []) (told ++ []) (points.Making (store_point (seat.stored + 1) seat.body))) [
+          | inl all ↦ rw all.0 (holds_with_nothing_told (λ t. StageAt tells heap number before (with_entries (record next { point = points.Making Bearing }) []) t (points.Making Bearing)) told
               (stage.0, stage.1, stored, record { births = []; are = sym here.hand.1 }))
-          | inr left ↦ rw left.0 (holds_with_nothing_told (λ t. StageAt tells heap number before (with_entries (record next { place = places.Making Storing }) []) t (places.Making Storing)) told (stage.0, stage.1, stored))
+          | inr left ↦ rw left.0 (holds_with_nothing_told (λ t. StageAt tells heap number before (with_entries (record next { point = points.Making Storing }) []) t (points.Making Storing)) told (stage.0, stage.1, stored))
         ];
       }
 
-  module _ (heap : Heap) (number : ℕ) (before : Kept) (seat : Seat) (told : List Entry) (here : IsAt heap number seat (places.Making Bearing))
-      (stage : StageAt tells heap number before seat told (places.Making Bearing)) where
+  module _ (heap : Heap) (number : ℕ) (before : Kept) (seat : Seat) (told : List Entry) (here : IsAt heap number seat (points.Making Bearing))
+      (stage : StageAt tells heap number before seat told (points.Making Bearing)) where
     -- some fragments were born, and others are left
     birth_leads : (found : ℕ) → tells (birth_move seat).step found → Leads tells heap number before seat told (birth_move seat) found
     birth_leads found tell =
@@ -94,8 +94,8 @@ module _ (tells : Step → ℕ → Type 0) where
         record {
           kept = refl;
           same = refl;
-          stage = subst (StageAt tells heap number before (with_entries ((birth_move seat).told found) []) (told ++ [])) (sym here.placed)
-              (holds_with_nothing_told (λ t. StageAt tells heap number before (with_entries ((birth_move seat).told found) []) t (places.Making Bearing)) told (stage.0, stage.1, stage.2, born));
+          stage = subst (StageAt tells heap number before (with_entries ((birth_move seat).told found) []) (told ++ [])) (sym here.point_is)
+              (holds_with_nothing_told (λ t. StageAt tells heap number before (with_entries ((birth_move seat).told found) []) t (points.Making Bearing)) told (stage.0, stage.1, stage.2, born));
         }
 
     -- the last ones were born
@@ -129,7 +129,7 @@ module _ (tells : Step → ℕ → Type 0) where
               group = last_group_of seat.hand;
               black = bears_black_of seat;
               last_of_group = subst (All (λ f. f / 16 ≡ last_group_of seat.hand)) whole (run_is_of_last_group seat.hand);
-              last_born = (found, subst (λ (part : List ℕ). tells (steps.Making (LastBirth (last_group_of seat.hand) (mask_of part) (bears_black_of seat))) found) whole tell);
+              last_born = (found, subst (λ (group_hand : List ℕ). tells (steps.Making (LastBirth (last_group_of seat.hand) (mask_of group_hand) (bears_black_of seat))) found) whole tell);
               kept_is = ap (λ (k : Kept). kept_replied seat.looks.seen (record (kept_of seat) {
                 registers = set k.registers (target_of seat.command) (Object (get_or seat.body 0 0) id);
                 made = k.made + 1;
@@ -139,8 +139,8 @@ module _ (tells : Step → ℕ → Type 0) where
         }
 
   -- the fragments of a group were born
-  pub place_leads_at_bearing : PlaceLeads tells (places.Making Bearing)
-  place_leads_at_bearing heap number before seat told here stage =
+  pub point_leads_at_bearing : PointLeads tells (points.Making Bearing)
+  point_leads_at_bearing heap number before seat told here stage =
       elim (true_or_false (is_last_birth seat)) as (λ _. LeadsOn tells heap number before seat told (bearing_move number seat)) [
         | inl last ↦ rw last (last_birth_leads heap number before seat told here stage last)
         | inr more ↦ rw more (birth_leads heap number before seat told here stage)

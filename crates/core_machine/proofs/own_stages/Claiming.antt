@@ -5,7 +5,7 @@ use Rattle.std.proofs.lemmas.Bool.{ne_eqb}
 use Rattle.std.proofs.lemmas.Bool.Decides.{eqb_tells}
 use Rattle.std.proofs.lemmas.List.Elements.{filter-append, All-nil, All-append, All-weaker, All-head, All-tail}
 use Rattle.heap_model.specs.calls.SeatCalls.{takes_of, gives_of, ClaimsBefore}
-use Rattle.core_machine.proofs.Terms.{Command, New, Array, Entry, Heap, Reply, Kept, ComesFirst, Step, IsBeside, MakesObject, IsArrayCall, in_group, part_in, clear_in}
+use Rattle.core_machine.proofs.Terms.{Command, New, Array, Entry, Heap, Reply, Kept, ComesFirst, Step, IsBeside, MakesObject, IsArrayCall, in_group, inside_group, clear_in}
 use Rattle.heap_model.specs.declared.reply.Reply.TheVariants as replies
 use Rattle.heap_model.specs.Needs.{need_of}
 use Rattle.core_machine.specs.calls.Claims.{AreOfTried, ClaimsGroup, IsGranted, Gathers}
@@ -13,7 +13,7 @@ use Rattle.core_machine.specs.declared.step.Step.TheVariants.{Making}
 use Rattle.core_machine.specs.declared.step.MakingStep.TheVariants.{Claim}
 use Rattle.core_machine.specs.seat.MakingMoves.{takes_some}
 use Rattle.core_machine.proofs.call_lemmas.Claiming.{has_taken_none, has_taken_one_group_more}
-use Rattle.core_machine.proofs.call_lemmas.Restoring.{part_of_own_group_is_all, part_of_other_group_is_empty}
+use Rattle.core_machine.proofs.call_lemmas.Restoring.{inside_own_group_is_all, inside_other_group_is_empty}
 use Rattle.core_machine.proofs.own_stages.Turns.{same_remainder_same_turn}
 use Rattle.core_machine.proofs.table_lemmas.Owned.{clear_is_of_group}
 
@@ -49,7 +49,7 @@ module _ (groups cursor tried : ℕ) (few : tried < groups) where
   another i below same = absurd (omega (arith, same_remainder_same_turn (cursor + i) (cursor + tried) groups (omega (arith, below)) (omega (arith, few)) (sym same), below))
 
   -- so the hand has nothing of it
-  pub none_of_next : (hand : List ℕ) → AreOfTried groups cursor tried hand → part_in group hand ≡ []
+  pub none_of_next : (hand : List ℕ) → AreOfTried groups cursor tried hand → inside_group group hand ≡ []
   none_of_next [] of_tried = refl
   none_of_next (fragment ∷ more) of_tried =
       let head = All-head (λ f. (i : ℕ) × (i < tried) × (f / 16 ≡ (cursor + i) % groups)) fragment more of_tried in
@@ -73,7 +73,7 @@ module _ (groups cursor tried : ℕ) (few : tried < groups) where
           word = word;
           told = told;
           got = filter-append (in_group group) hand (clear_in group word)
-              ∙ ap (λ (l : List ℕ). l ++ part_in group (clear_in group word)) (none_of_next hand of_tried) ∙ part_of_own_group_is_all group (clear_in group word) (clear_is_of_group group word);
+              ∙ ap (λ (l : List ℕ). l ++ inside_group group (clear_in group word)) (none_of_next hand of_tried) ∙ inside_own_group_is_all group (clear_in group word) (clear_is_of_group group word);
         })
         | inr earlier ↦
             let before : i < tried = omega (arith, earlier.1, below) in
@@ -82,8 +82,8 @@ module _ (groups cursor tried : ℕ) (few : tried < groups) where
               word = claim.word;
               told = claim.told;
               got = filter-append (in_group ((cursor + i) % groups)) hand (clear_in group word)
-                  ∙ ap (λ (l : List ℕ). part_in ((cursor + i) % groups) hand ++ l) (part_of_other_group_is_empty group ((cursor + i) % groups) (clear_in group word) (another i before) (clear_is_of_group group word))
-                  ∙ append-nil (part_in ((cursor + i) % groups) hand) ∙ claim.got;
+                  ∙ ap (λ (l : List ℕ). inside_group ((cursor + i) % groups) hand ++ l) (inside_other_group_is_empty group ((cursor + i) % groups) (clear_in group word) (another i before) (clear_is_of_group group word))
+                  ∙ append-nil (inside_group ((cursor + i) % groups) hand) ∙ claim.got;
             }
       ]
 

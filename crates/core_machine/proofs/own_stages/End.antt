@@ -4,7 +4,7 @@ use Rattle.heap_model.specs.calls.SeatCalls.{ComesBefore, last_gives, leave_entr
 use Rattle.core_machine.proofs.Terms.{Command, Entry, Said, Heap, Reply, Kept, kept_of, StageAt, OwnStage, StandsOn, ComesFirst, IsAnswered, Step, CountsCall, Seat}
 use Rattle.heap_model.specs.declared.command.Command.TheVariants as commands
 use Rattle.heap_model.specs.declared.reply.Reply.TheVariants as replies
-use Rattle.core_machine.specs.declared.place.Place.TheVariants as places
+use Rattle.core_machine.specs.declared.point.Point.TheVariants as points
 
 -- the entries before the reply are those that are due, where the phase that a poll tells is the one that was answered last, or the next
 pub comes_before : (number : ℕ) (before : Kept) (command : Command) (reply : Reply) (first : List Entry) → ComesFirst number before command reply first
@@ -18,8 +18,8 @@ comes_before number before commands.Poll _ first comes near = absurd comes
 comes_before number before _ reply first comes near = comes
 
 module _ (tells : Step → ℕ → Type 0) (heap : Heap) (number : ℕ) where
-  -- a call that stands so without a place is answered
-  pub own_answered : (command : Command) (old seat : Seat) (told : List Entry) → OwnStage tells heap number command old seat told → seat.place ≡ places.Idle
+  -- a call that stands so at no point is answered
+  pub own_answered : (command : Command) (old seat : Seat) (told : List Entry) → OwnStage tells heap number command old seat told → seat.point ≡ points.Idle
       → IsAnswered tells heap number command (kept_of old) (kept_of seat) told
   own_answered command old seat told is idle =
       subst (λ (c : Command). IsAnswered tells heap number c (kept_of old) (kept_of seat) told) is.same (subst (StageAt tells heap number (kept_of old) seat told) idle is.stage)

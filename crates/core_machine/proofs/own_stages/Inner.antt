@@ -1,40 +1,40 @@
 -- What each step of an inner call leads to by the seat's own view, whatever word it has found.
 use Rattle.std.proofs.Common.{◌≡◌, ℕ, ◌<◌, List, [], ◌++◌, Option, Some, refl, sym, ap, subst, ◌∙◌, append-nil, append_assoc}
 use Rattle.std.specs.Prelude.{IfSome}
-use Rattle.core_machine.proofs.Terms.{IsHeap, Entry, Heap, Move, next_move, seat_after, kept_of, IsUntold, Place, Step, after_inner_begin, Fits, Seat}
+use Rattle.core_machine.proofs.Terms.{IsHeap, Entry, Heap, Move, next_move, seat_after, kept_of, IsUntold, Point, Step, after_inner_begin, Fits, Seat}
 use Rattle.heap_model.specs.declared.calls.collect.Inner.{Inner}
 use Rattle.heap_model.specs.declared.calls.collect.Inner.TheVariants as inners
 use Rattle.core_machine.specs.calls.InnerStage.{IsInnerOver, InnerStageAt, OwnInnerStage}
-use Rattle.core_machine.specs.declared.place.Collecting.{Collecting}
-use Rattle.core_machine.specs.declared.place.Collecting.TheVariants.{Looking, Asking, Comparing, Noting}
-use Rattle.core_machine.specs.declared.place.Place.TheVariants as places
-use Rattle.core_machine.specs.declared.place.Polling.{Polling}
-use Rattle.core_machine.specs.declared.place.Polling.TheVariants as polling
-use Rattle.core_machine.specs.seat.Collecting.{inner_place}
-use Rattle.core_machine.proofs.own_stages.InnerLooks.{Leads, LeadsOn, PlaceLeads, inner_leads_at_looking, inner_leads_at_look_asking, inner_leads_at_comparing, inner_leads_at_noting}
+use Rattle.core_machine.specs.declared.point.Collecting.{Collecting}
+use Rattle.core_machine.specs.declared.point.Collecting.TheVariants.{Looking, Asking, Comparing, Noting}
+use Rattle.core_machine.specs.declared.point.Point.TheVariants as points
+use Rattle.core_machine.specs.declared.point.Polling.{Polling}
+use Rattle.core_machine.specs.declared.point.Polling.TheVariants as polling
+use Rattle.core_machine.specs.seat.Collecting.{inner_point}
+use Rattle.core_machine.proofs.own_stages.InnerLooks.{Leads, LeadsOn, PointLeads, inner_leads_at_looking, inner_leads_at_look_asking, inner_leads_at_comparing, inner_leads_at_noting}
 use Rattle.core_machine.proofs.own_stages.InnerAnswer.{inner_leads_at_poll_asking, inner_leads_at_shading, inner_leads_at_answering}
 
 module _ (tells : Step → ℕ → Type 0) where
-  -- each move of an inner call, by the place
-  collecting_leads : (place : Collecting) → PlaceLeads tells (places.Collecting place)
+  -- each move of an inner call, by the point
+  collecting_leads : (point : Collecting) → PointLeads tells (points.Collecting point)
   collecting_leads Looking = inner_leads_at_looking tells
   collecting_leads (Asking other) = inner_leads_at_look_asking tells other
   collecting_leads (Comparing other phase) = inner_leads_at_comparing tells other phase
   collecting_leads (Noting reply) = inner_leads_at_noting tells reply
 
-  polling_leads : (place : Polling) → PlaceLeads tells (places.Polling place)
+  polling_leads : (point : Polling) → PointLeads tells (points.Polling point)
   polling_leads polling.Asking = inner_leads_at_poll_asking tells
   polling_leads polling.Shading = inner_leads_at_shading tells
   polling_leads polling.Answering = inner_leads_at_answering tells
 
-  leads_at : (place : Place) → PlaceLeads tells place
-  leads_at places.Idle = λ heap number inner before seat told here collects stage. tt
-  leads_at (places.Making place) = λ heap number inner before seat told here collects stage. absurd stage
-  leads_at places.Local = λ heap number inner before seat told here collects stage. absurd stage
-  leads_at (places.Access place) = λ heap number inner before seat told here collects stage. absurd stage
-  leads_at (places.Polling place) = polling_leads place
-  leads_at (places.Collecting place) = collecting_leads place
-  leads_at (places.Leaving place) = λ heap number inner before seat told here collects stage. absurd stage
+  leads_at : (point : Point) → PointLeads tells point
+  leads_at points.Idle = λ heap number inner before seat told here collects stage. tt
+  leads_at (points.Making point) = λ heap number inner before seat told here collects stage. absurd stage
+  leads_at points.Local = λ heap number inner before seat told here collects stage. absurd stage
+  leads_at (points.Access point) = λ heap number inner before seat told here collects stage. absurd stage
+  leads_at (points.Polling point) = polling_leads point
+  leads_at (points.Collecting point) = collecting_leads point
+  leads_at (points.Leaving point) = λ heap number inner before seat told here collects stage. absurd stage
 
   -- an inner call that stands so goes on to stand so, whatever word its next step finds of which so much is told
   pub own_inner_leads : (heap : Heap) (number : ℕ) (inner : Inner) (old seat : Seat) (told : List Entry) (move : Move) (found : ℕ) → IsHeap heap → number < 16 → Fits heap seat
@@ -43,8 +43,8 @@ module _ (tells : Step → ℕ → Type 0) where
   own_inner_leads heap number inner old seat told move found limits few fits next tell is =
       let leads : Leads tells number inner (kept_of old) seat told move found =
       subst (λ (m : Option Move). IfSome m (LeadsOn tells number inner (kept_of old) seat told)) next
-      (leads_at seat.place heap number inner (kept_of old) seat told
-      (record { limits = limits; few = few; fits = fits; placed = refl; hand = fits.at_place; way = fits.way_at_place; answer = fits.answer_at_place }) is.same is.stage) found tell in
+      (leads_at seat.point heap number inner (kept_of old) seat told
+      (record { limits = limits; few = few; fits = fits; point_is = refl; hand = fits.at_point; way = fits.way_at_point; answer = fits.answer_at_point }) is.same is.stage) found tell in
       record {
         same = leads.same ∙ is.same;
         mine = ap (λ (l : List Entry). l ++ move.adds found) (leads.kept ∙ is.mine) ∙ append_assoc old.mine told (move.adds found);
@@ -57,13 +57,13 @@ module _ (tells : Step → ℕ → Type 0) where
     first : IsUntold (kept_of old) (kept_of old) []
     first = record { kept_stays = refl; none_told = refl }
 
-    by : (inner : Inner) → InnerStageAt tells number inner (kept_of old) (after_inner_begin old inner) [] (inner_place inner)
+    by : (inner : Inner) → InnerStageAt tells number inner (kept_of old) (after_inner_begin old inner) [] (inner_point inner)
     by inners.Look = (refl, first)
     by inners.Answer = (refl, first)
     by (inners.Behind other) = (refl, first)
     by (inners.Note reply) = (refl, first)
 
-  -- without a place it is over
-  pub placeless_inner_is_over : (number : ℕ) (inner : Inner) (old seat : Seat) (told : List Entry) → OwnInnerStage tells number inner old seat told → seat.place ≡ places.Idle
+  -- without a point it is over
+  pub idle_inner_is_over : (number : ℕ) (inner : Inner) (old seat : Seat) (told : List Entry) → OwnInnerStage tells number inner old seat told → seat.point ≡ points.Idle
       → IsInnerOver tells number (kept_of old) (kept_of seat) told inner
-  placeless_inner_is_over number inner old seat told is idle = subst (InnerStageAt tells number inner (kept_of old) seat told) idle is.stage
+  idle_inner_is_over number inner old seat told is idle = subst (InnerStageAt tells number inner (kept_of old) seat told) idle is.stage

@@ -4,11 +4,11 @@ use Rattle.std.specs.Prelude.{IfSome}
 use Rattle.heap_model.specs.declared.calls.collect.CollectReply.{CollectReply}
 use Rattle.heap_model.specs.declared.calls.collect.Inner.{Inner}
 use Rattle.heap_model.specs.declared.calls.collect.Inner.TheVariants as inners
-use Rattle.core_machine.proofs.Terms.{Command, Entry, Said, Heap, Move, move_at, seat_after, Kept, kept_of, HasAsked, Place, Step, Seat, with_seen}
+use Rattle.core_machine.proofs.Terms.{Command, Entry, Said, Heap, Move, move_at, seat_after, Kept, kept_of, HasAsked, Point, Step, Seat, with_seen}
 use Rattle.heap_model.specs.declared.command.Command.TheVariants as commands
 use Rattle.core_machine.specs.calls.InnerStage.{IsInnerOver, InnerStageAt}
-use Rattle.core_machine.specs.declared.place.Collecting.TheVariants.{Looking, Asking, Comparing, Noting}
-use Rattle.core_machine.specs.declared.place.Place.TheVariants as places
+use Rattle.core_machine.specs.declared.point.Collecting.TheVariants.{Looking, Asking, Comparing, Noting}
+use Rattle.core_machine.specs.declared.point.Point.TheVariants as points
 use Rattle.core_machine.specs.seat.Collecting.{look_move, comparing_move, note_move}
 use Rattle.core_machine.specs.seat.Looks.{compared, noted_reply}
 use Rattle.core_machine.proofs.moves.Standing.{IsAt}
@@ -19,18 +19,18 @@ module _ (tells : Step → ℕ → Type 0) where
   pub record Leads (number : ℕ) (inner : Inner) (before : Kept) (seat : Seat) (told : List Entry) (move : Move) (found : ℕ) : Type 0 where
     pub kept : (move.told found).mine ≡ seat.mine
     pub same : (move.told found).command ≡ seat.command
-    pub stage : InnerStageAt tells number inner before (seat_after move found) (told ++ move.adds found) (seat_after move found).place
+    pub stage : InnerStageAt tells number inner before (seat_after move found) (told ++ move.adds found) (seat_after move found).point
 
   abbrev pub LeadsOn : ℕ → Inner → Kept → Seat → List Entry → Move → Type 0
   LeadsOn number inner before seat told move = (found : ℕ) → tells move.step found → Leads number inner before seat told move found
 
-  abbrev pub PlaceLeads : Place → Type 0
-  PlaceLeads place =
-      (heap : Heap) (number : ℕ) (inner : Inner) (before : Kept) (seat : Seat) (told : List Entry) → IsAt heap number seat place → seat.command ≡ commands.Collect
-      → InnerStageAt tells number inner before seat told place → IfSome (move_at heap number seat place) (LeadsOn number inner before seat told)
+  abbrev pub PointLeads : Point → Type 0
+  PointLeads point =
+      (heap : Heap) (number : ℕ) (inner : Inner) (before : Kept) (seat : Seat) (told : List Entry) → IsAt heap number seat point → seat.command ≡ commands.Collect
+      → InnerStageAt tells number inner before seat told point → IfSome (move_at heap number seat point) (LeadsOn number inner before seat told)
 
   -- the phase was looked at
-  pub inner_leads_at_looking : PlaceLeads (places.Collecting Looking)
+  pub inner_leads_at_looking : PointLeads (points.Collecting Looking)
   inner_leads_at_looking heap number inner before seat told here collects stage found tell =
       let last = kept_of ((look_move seat).told found) in
       record {
@@ -41,7 +41,7 @@ module _ (tells : Step → ℕ → Type 0) where
       }
 
   -- the phase was loaded that is to be compared
-  pub inner_leads_at_look_asking : (other : ℕ) → PlaceLeads (places.Collecting (Asking other))
+  pub inner_leads_at_look_asking : (other : ℕ) → PointLeads (points.Collecting (Asking other))
   inner_leads_at_look_asking other heap number inner before seat told here collects stage found tell = record {
     kept = refl;
     same = refl;
@@ -49,7 +49,7 @@ module _ (tells : Step → ℕ → Type 0) where
   }
 
   -- the other seat's word was loaded
-  pub inner_leads_at_comparing : (other phase : ℕ) → PlaceLeads (places.Collecting (Comparing other phase))
+  pub inner_leads_at_comparing : (other phase : ℕ) → PointLeads (points.Collecting (Comparing other phase))
   inner_leads_at_comparing other phase heap number inner before seat told here collects stage found tell =
       let last = kept_of ((comparing_move seat other phase).told found) in
       let asked = stage.1 in
@@ -67,7 +67,7 @@ module _ (tells : Step → ℕ → Type 0) where
       }
 
   -- the reply was noted
-  pub inner_leads_at_noting : (reply : CollectReply) → PlaceLeads (places.Collecting (Noting reply))
+  pub inner_leads_at_noting : (reply : CollectReply) → PointLeads (points.Collecting (Noting reply))
   inner_leads_at_noting reply heap number inner before seat told here collects stage found tell =
       let last = kept_of ((note_move number seat reply).told found) in
       record {

@@ -1,7 +1,7 @@
 -- What a step leads to by the seat's own view, whatever word it has found.
 use Rattle.std.proofs.Common.{◌≡◌, ℕ, List, [], ◌∷◌, ◌++◌, refl, sym, subst, append-nil}
 use Rattle.std.specs.Prelude.{IfSome}
-use Rattle.core_machine.proofs.Terms.{Command, Entry, Said, Heap, Reply, Kept, IsUntold, StageAt, StandsOn, ComesFirst, IsAnswered, Place, Step, Move, move_at, seat_after, Seat}
+use Rattle.core_machine.proofs.Terms.{Command, Entry, Said, Heap, Reply, Kept, IsUntold, StageAt, StandsOn, ComesFirst, IsAnswered, Point, Step, Move, move_at, seat_after, Seat}
 use Rattle.heap_model.specs.declared.command.Command.TheVariants as commands
 use Rattle.core_machine.proofs.call_lemmas.RepliesAlone.{RepliesAlone}
 use Rattle.core_machine.proofs.moves.Standing.{IsAt}
@@ -11,16 +11,16 @@ module _ (tells : Step → ℕ → Type 0) where
   pub record Leads (heap : Heap) (number : ℕ) (before : Kept) (seat : Seat) (told : List Entry) (move : Move) (found : ℕ) : Type 0 where
     pub kept : (move.told found).mine ≡ seat.mine
     pub same : (move.told found).command ≡ seat.command
-    pub stage : StageAt tells heap number before (seat_after move found) (told ++ move.adds found) (seat_after move found).place
+    pub stage : StageAt tells heap number before (seat_after move found) (told ++ move.adds found) (seat_after move found).point
 
-  -- so does each move of a place, whatever word it found of which so much is told
+  -- so does each move of a point, whatever word it found of which so much is told
   abbrev pub LeadsOn : Heap → ℕ → Kept → Seat → List Entry → Move → Type 0
   LeadsOn heap number before seat told move = (found : ℕ) → tells move.step found → Leads heap number before seat told move found
 
-  abbrev pub PlaceLeads : Place → Type 0
-  PlaceLeads place =
-      (heap : Heap) (number : ℕ) (before : Kept) (seat : Seat) (told : List Entry) → IsAt heap number seat place → StageAt tells heap number before seat told place
-      → IfSome (move_at heap number seat place) (LeadsOn heap number before seat told)
+  abbrev pub PointLeads : Point → Type 0
+  PointLeads point =
+      (heap : Heap) (number : ℕ) (before : Kept) (seat : Seat) (told : List Entry) → IsAt heap number seat point → StageAt tells heap number before seat told point
+      → IfSome (move_at heap number seat point) (LeadsOn heap number before seat told)
 
 -- nothing more is told
 pub holds_with_nothing_told : (P : List Entry → Type 0) (told : List Entry) → P told → P (told ++ [])

@@ -17,8 +17,8 @@ module _ (number : ℕ) where
     pub replies : last_answer number entries ≡ answers
 
   -- the sums of two lists are added
-  total_of-append : (part : Effect → ℕ) (front back : List Entry) → total_of number part (front ++ back) ≡ total_of number part front + total_of number part back
-  total_of-append part front back = sum_by-append (λ e. cond (is_of number e) (part (effect_of e)) 0) front back
+  total_of-append : (summand : Effect → ℕ) (front back : List Entry) → total_of number summand (front ++ back) ≡ total_of number summand front + total_of number summand back
+  total_of-append summand front back = sum_by-append (λ e. cond (is_of number e) (summand (effect_of e)) 0) front back
 
   pub come_to-append : (front back : List Entry) {taken spent answers taken' spent' answers' : ℕ} → ComeTo front taken spent answers → ComeTo back taken' spent' answers'
       → ComeTo (front ++ back) (taken + taken') (spent + spent') (answers + answers')

@@ -2,20 +2,20 @@
 use Rattle.std.proofs.Common.{◌≡◌, ℕ, suc, ◌-◌, ◌<◌, List, [], ◌∷◌, ◌++◌, Option, Some, None, refl, subst, ◌∙◌, inl, inr, arith}
 use Rattle.std.proofs.lemmas.Bool.Decides.{eqb_tells, leb_tells}
 use Rattle.core_machine.proofs.Terms.{link_of, length_of, array_length_of, Command, Get, Set, Len, Entry, Said, Heap, Reply, Kept, kept_of, KeepsAll, IsUntold, AccessStage}
-use Rattle.core_machine.proofs.Terms.{StageAt, StandsOn, IsAnswered, LoadingMeta, Walking, LoadingSpot, Indexing, Step, at_access, with_field_place, field_place_of, way_place_of}
+use Rattle.core_machine.proofs.Terms.{StageAt, StandsOn, IsAnswered, LoadingMeta, Walking, LoadingSpot, Indexing, Step, at_access, with_field_place, field_point_of, way_point_of}
 use Rattle.core_machine.proofs.Terms.{after_link, after_walk, field_reply_of, after_length, at_payload, after_index, meta_reply_of, after_meta, field_of, NamesObject, NamesField}
 use Rattle.core_machine.proofs.Terms.{Seat, with_entries}
 use Rattle.heap_model.specs.declared.reply.Reply.TheVariants.{NoField}
 use Rattle.core_machine.specs.calls.Reaching.{HasOpened, GoesByLinks, ReachesField}
-use Rattle.core_machine.specs.declared.place.Place.TheVariants as places
+use Rattle.core_machine.specs.declared.point.Point.TheVariants as points
 use Rattle.core_machine.specs.declared.step.AccessStep.TheVariants.{WalkLoad}
 use Rattle.core_machine.specs.declared.step.Step.TheVariants as steps
 use Rattle.core_machine.specs.seat.AccessMoves.{reply_entries_if}
 use Rattle.core_machine.proofs.call_lemmas.RepliesAlone.{object_replies_alone}
 use Rattle.core_machine.proofs.moves.Standing.{IsAt}
 use Rattle.core_machine.proofs.moves.Walk.{onward_keeps_list}
-use Rattle.core_machine.proofs.own_stages.Leading.{PlaceLeads, holds_with_nothing_told, holds_of_untold, reply_alone_answers}
-use Rattle.core_machine.proofs.seat_lemmas.FieldPlaces.{field_place_cases}
+use Rattle.core_machine.proofs.own_stages.Leading.{PointLeads, holds_with_nothing_told, holds_of_untold, reply_alone_answers}
+use Rattle.core_machine.proofs.seat_lemmas.FieldPoints.{field_point_cases}
 
 -- where the meta refuses no field, there is one
 field_within : (field found : ℕ) → field_reply_of field found ≡ None → field < length_of found
@@ -67,25 +67,25 @@ module _ (tells : Step → ℕ → Type 0) where
   met_stands heap number _ before kept head found reply names opened keeps some = absurd names
 
   -- the field was reached
-  field_stage : (before : Kept) (seat s : Seat) (command : Command) → ReachesField tells s.command before s.reached s.part → AccessStage tells before s (field_place_of seat command)
-  field_stage before seat s command reaches = field_place_cases (AccessStage tells before s) seat command reaches (λ on. reaches) (λ off. reaches)
+  field_stage : (before : Kept) (seat s : Seat) (command : Command) → ReachesField tells s.command before s.reached s.part → AccessStage tells before s (field_point_of seat command)
+  field_stage before seat s command reaches = field_point_cases (AccessStage tells before s) seat command reaches (λ on. reaches) (λ off. reaches)
 
   -- the way goes on by links, or was gone
-  way_stage : (before : Kept) (seat s : Seat) → s.links ≡ seat.links → GoesByLinks tells s.command before s.reached s.links s.part → AccessStage tells before s (way_place_of seat)
+  way_stage : (before : Kept) (seat s : Seat) → s.links ≡ seat.links → GoesByLinks tells s.command before s.reached s.links s.part → AccessStage tells before s (way_point_of seat)
   way_stage before seat s same goes =
-      elim (eqb_tells seat.links 0) as (λ _. AccessStage tells before s (way_place_of seat)) [
+      elim (eqb_tells seat.links 0) as (λ _. AccessStage tells before s (way_point_of seat)) [
         | inl none ↦ rw none.0 (field_stage before seat s seat.command (inl (subst (λ (n : ℕ). GoesByLinks tells s.command before s.reached n s.part) (same ∙ none.1) goes)))
         | inr some ↦ rw some.0 goes
       ]
 
   onward : (heap : Heap) (number : ℕ) (before : Kept) (seat : Seat) (told : List Entry) (found : ℕ) → IsUntold before (kept_of seat) told → GoesByLinks tells seat.command before seat.reached seat.links seat.part
-      → tells (steps.Access (WalkLoad seat.reached)) found → StageAt tells heap number before (with_entries (after_walk seat found) []) (told ++ []) (after_walk seat found).place
+      → tells (steps.Access (WalkLoad seat.reached)) found → StageAt tells heap number before (with_entries (after_walk seat found) []) (told ++ []) (after_walk seat found).point
   onward heap number before seat told found untold goes tell =
       let still = holds_with_nothing_told (IsUntold before (kept_of seat)) told untold in
-      elim (eqb_tells seat.links 0) as (λ _. StageAt tells heap number before (with_entries (after_walk seat found) []) (told ++ []) (after_walk seat found).place) [
+      elim (eqb_tells seat.links 0) as (λ _. StageAt tells heap number before (with_entries (after_walk seat found) []) (told ++ []) (after_walk seat found).point) [
         | inl none ↦
-            let stage : StageAt tells heap number before (with_entries (at_access seat (way_place_of seat)) []) (told ++ []) (places.Access (way_place_of seat)) =
-            (still, way_stage before seat (with_entries (at_access seat (way_place_of seat)) []) refl goes) in
+            let stage : StageAt tells heap number before (with_entries (at_access seat (way_point_of seat)) []) (told ++ []) (points.Access (way_point_of seat)) =
+            (still, way_stage before seat (with_entries (at_access seat (way_point_of seat)) []) refl goes) in
             rw none.0 (rw none.0 at stage)
         | inr some ↦
             let all = goes.all in
@@ -100,15 +100,15 @@ module _ (tells : Step → ℕ → Type 0) where
               leads = (seat.reached, found, goes.leads, tell, refl);
               part_is = goes.part_is;
             } in
-            rw some.0 (still, way_stage before (after_link seat found) (with_entries (at_access (after_link seat found) (way_place_of (after_link seat found))) []) refl more)
+            rw some.0 (still, way_stage before (after_link seat found) (with_entries (at_access (after_link seat found) (way_point_of (after_link seat found))) []) refl more)
       ]
 
   -- a link was loaded
-  pub place_leads_at_walking : PlaceLeads tells (places.Access Walking)
-  place_leads_at_walking heap number before seat told here stage found tell =
+  pub point_leads_at_walking : PointLeads tells (points.Access Walking)
+  point_leads_at_walking heap number before seat told here stage found tell =
       record { kept = onward_keeps_list seat found; same = onward_same seat found; stage = onward heap number before seat told found stage.0 stage.1 tell }
 
-  module _ (heap : Heap) (number : ℕ) (before : Kept) (seat : Seat) (told : List Entry) (here : IsAt heap number seat (places.Access LoadingMeta)) (untold : IsUntold before (kept_of seat) told)
+  module _ (heap : Heap) (number : ℕ) (before : Kept) (seat : Seat) (told : List Entry) (here : IsAt heap number seat (points.Access LoadingMeta)) (untold : IsUntold before (kept_of seat) told)
       (found : ℕ) (tell : tells (steps.Access (WalkLoad seat.reached)) found) where
     opened : HasOpened tells seat.command (kept_of seat) seat.reached found
     opened = record { holds = here.way.at_head; told = tell }
@@ -116,11 +116,11 @@ module _ (tells : Step → ℕ → Type 0) where
     -- the meta of a record was found, or that of an array
     length_leads : (cells : Option ℕ) → array_length_of found ≡ cells → field_of seat.command < length_of found
         → ((after_length seat found cells).mine ≡ seat.mine) × ((after_length seat found cells).command ≡ seat.command)
-        × StageAt tells heap number before (with_entries (after_length seat found cells) []) (told ++ []) (after_length seat found cells).place
+        × StageAt tells heap number before (with_entries (after_length seat found cells) []) (told ++ []) (after_length seat found cells).point
     length_leads None is within = (
       onward_keeps_list (with_field_place seat) found,
       onward_same (with_field_place seat) found,
-      holds_of_untold (λ b t. StageAt tells heap number b (with_entries (after_length seat found None) []) (t ++ []) (after_length seat found None).place) untold
+      holds_of_untold (λ b t. StageAt tells heap number b (with_entries (after_length seat found None) []) (t ++ []) (after_length seat found None).point) untold
           (onward heap number (kept_of seat) (with_field_place seat) [] found (record { kept_stays = refl; none_told = refl }) (record {
             head = seat.reached;
             meta = found;
@@ -136,7 +136,7 @@ module _ (tells : Step → ℕ → Type 0) where
     length_leads (Some cells) is within = (
       refl,
       refl,
-      holds_of_untold (λ b t. StageAt tells heap number b (with_entries (after_length seat found (Some cells)) []) (t ++ []) (places.Access LoadingSpot)) untold (
+      holds_of_untold (λ b t. StageAt tells heap number b (with_entries (after_length seat found (Some cells)) []) (t ++ []) (points.Access LoadingSpot)) untold (
         record { kept_stays = refl; none_told = refl },
         record { meta = found; cells = cells; opened = opened; an_array = is; within = within; part_is = refl },
       ),
@@ -144,7 +144,7 @@ module _ (tells : Step → ℕ → Type 0) where
 
     met_leads : (reply : Option Reply) → meta_reply_of seat.command found ≡ reply
         → ((after_meta seat found reply).mine ≡ seat.mine) × ((after_meta seat found reply).command ≡ seat.command)
-        × StageAt tells heap number before (with_entries (after_meta seat found reply) (reply_entries_if number seat reply)) (told ++ reply_entries_if number seat reply) (after_meta seat found reply).place
+        × StageAt tells heap number before (with_entries (after_meta seat found reply) (reply_entries_if number seat reply)) (told ++ reply_entries_if number seat reply) (after_meta seat found reply).point
     met_leads None is = length_leads (array_length_of found) refl (met_within seat.command found here.way.names is)
     met_leads (Some reply) is = (
       refl,
@@ -155,22 +155,22 @@ module _ (tells : Step → ℕ → Type 0) where
     )
 
   -- the meta was loaded
-  pub place_leads_at_loading_meta : PlaceLeads tells (places.Access LoadingMeta)
-  place_leads_at_loading_meta heap number before seat told here stage found tell =
+  pub point_leads_at_loading_meta : PointLeads tells (points.Access LoadingMeta)
+  point_leads_at_loading_meta heap number before seat told here stage found tell =
       let met = met_leads heap number before seat told here stage.0 found tell (meta_reply_of seat.command found) refl in
       record { kept = met.0; same = met.1; stage = met.2 }
 
   -- the place of the spine was loaded
-  pub place_leads_at_locating : PlaceLeads tells (places.Access LoadingSpot)
-  place_leads_at_locating heap number before seat told here stage found tell = record {
+  pub point_leads_at_locating : PointLeads tells (points.Access LoadingSpot)
+  point_leads_at_locating heap number before seat told here stage found tell = record {
     kept = refl;
     same = refl;
     stage = (holds_with_nothing_told (IsUntold before (kept_of seat)) told stage.0, record { way = stage.1; word = found; told = tell; address_is = refl });
   }
 
   -- the spine word was loaded
-  pub place_leads_at_indexing : PlaceLeads tells (places.Access Indexing)
-  place_leads_at_indexing heap number before seat told here stage found tell = record {
+  pub point_leads_at_indexing : PointLeads tells (points.Access Indexing)
+  point_leads_at_indexing heap number before seat told here stage found tell = record {
     kept = refl;
     same = refl;
     stage = (

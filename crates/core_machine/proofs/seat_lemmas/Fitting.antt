@@ -5,13 +5,13 @@ use Rattle.std.proofs.lemmas.Bool.Decides.{leb_tells, eqb_tells}
 use Rattle.std.proofs.lemmas.List.Elements.{All-append, All-drop, All-take, All-nil}
 use Rattle.heap_words.specs.declared.spot.Spot.{Spot}
 use Rattle.core_machine.proofs.Terms.{Heap, Command, New, Array, spine_need_of, Withdrawing, Gathering, GivingBack, Refusing, Placing, Listing, Storing, MakesObject, IsRecordCall}
-use Rattle.core_machine.proofs.Terms.{IsArrayCall, FitsSpot, Seat, need, spine_need, fragments_gathered, settled_place, after_gather, after_shortage, refusal_place, gather_next}
-use Rattle.core_machine.proofs.Terms.{after_budget, list_place, last_claimed, next_group_of, AreFragments, HasNoSpine, IsAtRest, MakesNext, SeatIsRefusing, HasBody, IsUnstored}
+use Rattle.core_machine.proofs.Terms.{IsArrayCall, FitsSpot, Seat, need, spine_need, fragments_gathered, settled_point, after_gather, after_shortage, refusal_point, gather_next}
+use Rattle.core_machine.proofs.Terms.{after_budget, list_point, last_claimed, next_group_of, AreFragments, HasNoSpine, IsAtRest, MakesNext, SeatIsRefusing, HasBody, IsUnstored}
 use Rattle.core_machine.proofs.Terms.{SpineIsListed, FitsMaking, OwnFits, Fits}
 use Rattle.heap_model.specs.Command.{IsCommand}
 use Rattle.heap_model.specs.account.Space.{need_of}
-use Rattle.core_machine.specs.declared.place.Place.TheVariants as places
-use Rattle.core_machine.specs.declared.place.Making.{Making}
+use Rattle.core_machine.specs.declared.point.Point.TheVariants as points
+use Rattle.core_machine.specs.declared.point.Making.{Making}
 use Rattle.core_machine.proofs.seat_lemmas.Aside.{IsAside, left_aside_is_absurd, no_spot_fits, aside_way_fits}
 use Rattle.core_machine.proofs.table_lemmas.Owned.{group_fragments_within_heap}
 
@@ -43,36 +43,36 @@ spine_is_all_listed _ spine listed an_array all = absurd an_array
 
 -- a seat goes on in one of three ways
 pub goes_on_cases : (P : Seat → Type 0) (heap : Heap) (seat : Seat) → (need seat ≤ length (fragments_gathered seat) → P (after_gather heap seat))
-    → (length (fragments_gathered seat) < need seat → seat.tried < heap.groups → P (record seat { place = places.Making Gathering }))
+    → (length (fragments_gathered seat) < need seat → seat.tried < heap.groups → P (record seat { point = points.Making Gathering }))
     → (length (fragments_gathered seat) < need seat → heap.groups ≤ seat.tried → P (after_shortage seat)) → P (gather_next heap seat)
 goes_on_cases P heap seat enough more few =
     elim (leb_tells (need seat) (length (fragments_gathered seat))) as (λ _. P (gather_next heap seat)) [
       | inl yes_ ↦ rw yes_.0 (enough yes_.1)
-      | inr lacks ↦ rw lacks.0 (elim (leb_tells (suc seat.tried) heap.groups) as (λ _. P (cond (leb (suc seat.tried) heap.groups) (record seat { place = places.Making Gathering }) (after_shortage seat))) [
+      | inr lacks ↦ rw lacks.0 (elim (leb_tells (suc seat.tried) heap.groups) as (λ _. P (cond (leb (suc seat.tried) heap.groups) (record seat { point = points.Making Gathering }) (after_shortage seat))) [
         | inl left ↦ rw left.0 (more lacks.1 left.1)
         | inr all ↦ rw all.0 (few lacks.1 (omega (arith, all.1)))
       ])
     ]
 
 -- a refusal gives back, or is told
-pub returning_cases : (P : Making → Type 0) (hand : List ℕ) → (hand ≡ [] → P Refusing) → (0 < length hand → P GivingBack) → P (refusal_place hand)
+pub returning_cases : (P : Making → Type 0) (hand : List ℕ) → (hand ≡ [] → P Refusing) → (0 < length hand → P GivingBack) → P (refusal_point hand)
 returning_cases P [] none some = none refl
 returning_cases P (fragment ∷ more) none some = some (omega arith)
 
 -- the spine words that were asked for are too many, or the gathering begins
-pub budget_cases : (P : Seat → Type 0) (heap : Heap) (seat : Seat) (found : ℕ) → (heap.spine < found + spine_need seat → P (record seat { used = found; place = places.Making Withdrawing }))
+pub budget_cases : (P : Seat → Type 0) (heap : Heap) (seat : Seat) (found : ℕ) → (heap.spine < found + spine_need seat → P (record seat { used = found; point = points.Making Withdrawing }))
     → (found + spine_need seat ≤ heap.spine → P (gather_next heap seat)) → P (after_budget heap seat found)
 budget_cases P heap seat found lacks grants =
     elim (leb_tells (suc heap.spine) (found + spine_need seat)) as (λ _. P (after_budget heap seat found)) [ inl many ↦ rw many.0 (lacks many.1) | inr few ↦ rw few.0 (grants (omega (arith, few.1))) ]
 
 -- what comes once an object has its fragments
-pub settled_cases : (P : Making → Type 0) (command : Command) → (IsArrayCall command → P Placing) → ((IsArrayCall command → ⊥) → P Storing) → P (settled_place command)
+pub settled_cases : (P : Making → Type 0) (command : Command) → (IsArrayCall command → P Placing) → ((IsArrayCall command → ⊥) → P Storing) → P (settled_point command)
 settled_cases P (Array d cells) array other = array tt
 settled_cases P _ array other = other (λ e. e)
 
 -- what comes once a word of the spine is stored
-pub listing_cases : (P : Making → Type 0) (listed words : ℕ) → (listed < words → P Listing) → (words ≤ listed → P Storing) → P (list_place listed words)
-listing_cases P listed words more all = elim (leb_tells (suc listed) words) as (λ _. P (list_place listed words)) [ inl left ↦ rw left.0 (more left.1) | inr none ↦ rw none.0 (all (omega (arith, none.1))) ]
+pub listing_cases : (P : Making → Type 0) (listed words : ℕ) → (listed < words → P Listing) → (words ≤ listed → P Storing) → P (list_point listed words)
+listing_cases P listed words more all = elim (leb_tells (suc listed) words) as (λ _. P (list_point listed words)) [ inl left ↦ rw left.0 (more left.1) | inr none ↦ rw none.0 (all (omega (arith, none.1))) ]
 
 -- what is true of a seat before it goes on: some fragments are gathered, and those past the need are of the last group
 pub record IsGathered (heap : Heap) (seat : Seat) : Type 0 where
@@ -105,10 +105,10 @@ listed_none (New d fields) used spine listed makes other none = (none.no_place, 
 listed_none (Array d cells) used spine listed makes other none = absurd (other tt)
 listed_none _ used spine listed makes other none = absurd makes
 
--- an object that has its fragments stands at its next place
-fits_settled_place : (heap : Heap) (seat : Seat) → HasBody seat → IsUnstored seat.hand seat.body seat.stored → 1 ≤ length seat.body → HasNoSpine seat.used seat.spine seat.listed
-    → FitsMaking heap seat (settled_place seat.command)
-fits_settled_place heap seat body unstored some none =
+-- an object that has its fragments stands at its next point
+fits_settled_point : (heap : Heap) (seat : Seat) → HasBody seat → IsUnstored seat.hand seat.body seat.stored → 1 ≤ length seat.body → HasNoSpine seat.used seat.spine seat.listed
+    → FitsMaking heap seat (settled_point seat.command)
+fits_settled_point heap seat body unstored some none =
     settled_cases (FitsMaking heap seat) seat.command (λ an_array. ((body, an_array, unstored), none))
     (λ other. (body, unstored.all_unborn, omega (arith, unstored.none_stored), listed_none seat.command seat.used seat.spine seat.listed body.makes.an_object other none))
 
@@ -137,24 +137,24 @@ fits_settled heap seat is enough =
       };
       way = aside_way_fits heap seat is.aside;
       asked_small = is.aside.asked_small;
-      way_at_place = is.aside.nowhere;
-      answer_at_place = is.aside.silent;
+      way_at_point = is.aside.nowhere;
+      answer_at_point = is.aside.silent;
       gone = left_aside_is_absurd is.aside.present;
-      at_place = fits_settled_place heap (after_gather heap seat)
+      at_point = fits_settled_point heap (after_gather heap seat)
           (record { makes = is.makes; whole = whole; none_tried = refl; none_given = is.none_given; none_used = is.no_spine.none_used })
           (record { all_unborn = refl; none_stored = is.none_stored }) (omega (arith, some.0, whole)) is.no_spine;
     }
 
--- the place of a refusal tells whether anything is to be given back
-pub refusal_place_fits : (heap : Heap) (seat : Seat) (hand : List ℕ) → SeatIsRefusing heap seat → seat.hand ≡ hand
-    → FitsMaking heap seat (refusal_place hand)
-refusal_place_fits heap seat [] refuses is = (refuses, is)
-refusal_place_fits heap seat (fragment ∷ more) refuses is = (refuses, rw is (omega arith))
+-- the point of a refusal tells whether anything is to be given back
+pub refusal_point_fits : (heap : Heap) (seat : Seat) (hand : List ℕ) → SeatIsRefusing heap seat → seat.hand ≡ hand
+    → FitsMaking heap seat (refusal_point hand)
+refusal_point_fits heap seat [] refuses is = (refuses, is)
+refusal_point_fits heap seat (fragment ∷ more) refuses is = (refuses, rw is (omega arith))
 
--- what is gathered goes on to a place of making that it fits
-fits_gathered : (heap : Heap) (seat : Seat) (place : Making) → IsGathered heap seat → FitsMaking heap (record seat { place = places.Making place }) place
-    → Fits heap (record seat { place = places.Making place })
-fits_gathered heap seat place is at_place = record {
+-- what is gathered goes on to a point of making that it fits
+fits_gathered : (heap : Heap) (seat : Seat) (point : Making) → IsGathered heap seat → FitsMaking heap (record seat { point = points.Making point }) point
+    → Fits heap (record seat { point = points.Making point })
+fits_gathered heap seat point is at_point = record {
   own = record {
     registers_whole = is.registers_whole;
     registers_fit = is.aside.registers_fit;
@@ -169,21 +169,21 @@ fits_gathered heap seat place is at_place = record {
   };
   way = aside_way_fits heap seat is.aside;
   asked_small = is.aside.asked_small;
-  at_place = at_place;
-  way_at_place = is.aside.nowhere;
-  answer_at_place = is.aside.silent;
+  at_point = at_point;
+  way_at_point = is.aside.nowhere;
+  answer_at_point = is.aside.silent;
   gone = left_aside_is_absurd is.aside.present;
 }
 
 fits_gathering : (heap : Heap) (seat : Seat) → IsGathered heap seat → seat.tried < heap.groups
-    → length seat.reserve + length seat.hand < need seat → Fits heap (record seat { place = places.Making Gathering })
+    → length seat.reserve + length seat.hand < need seat → Fits heap (record seat { point = points.Making Gathering })
 fits_gathering heap seat is left few = fits_gathered heap seat Gathering is
     record { makes = is.makes; no_spine = is.no_spine; no_body = is.no_body; none_stored = is.none_stored; none_given = is.none_given; groups_left = left; too_few = few }
 
 fits_refused : (heap : Heap) (seat : Seat) → IsGathered heap seat → seat.tried ≡ heap.groups
     → length seat.reserve + length seat.hand < need seat → Fits heap (after_shortage seat)
-fits_refused heap seat is all few = fits_gathered heap seat (refusal_place seat.hand) is
-    (refusal_place_fits heap (after_shortage seat) seat.hand
+fits_refused heap seat is all few = fits_gathered heap seat (refusal_point seat.hand) is
+    (refusal_point_fits heap (after_shortage seat) seat.hand
     (record { makes = is.makes; no_spine = is.no_spine; no_body = is.no_body; none_stored = is.none_stored; all_tried = all; too_few = omega (arith, is.none_given) }) refl)
 
 pub fits_going_on : (heap : Heap) (seat : Seat) → IsGathered heap seat → Fits heap (gather_next heap seat)

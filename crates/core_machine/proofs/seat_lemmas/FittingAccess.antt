@@ -6,8 +6,8 @@ use Rattle.std.proofs.lemmas.List.Elements.{All-set}
 use Rattle.heap_words.specs.declared.spot.Spot.{Spot}
 use Rattle.core_machine.proofs.Terms.{Heap, Register, target_of, head_of, IsWithinHeap, FitsSpot, Seat, after_call, with_register_filled, FitsAccess, FitsRegister, IsAtRest}
 use Rattle.core_machine.proofs.Terms.{IsSilent, Fits}
-use Rattle.core_machine.specs.declared.place.Place.TheVariants as places
-use Rattle.core_machine.specs.declared.place.Access.{Access}
+use Rattle.core_machine.specs.declared.point.Point.TheVariants as points
+use Rattle.core_machine.specs.declared.point.Access.{Access}
 use Rattle.core_machine.proofs.seat_lemmas.Aside.{left_aside_is_absurd, fits_after_call}
 
 -- what a call that makes nothing leaves alone
@@ -17,35 +17,35 @@ pub record Rests (heap : Heap) (seat : Seat) : Type 0 where
   pub silent : IsSilent seat
   pub present : seat.left ≡ false
 
--- the seat with another way, at this place of access
-fits_way : (heap : Heap) (seat : Seat) (reached links part : ℕ) (address : Spot) (loaded : ℕ) (place : Access) → Rests heap seat → reached < 16 * heap.groups → FitsSpot address
+-- the seat with another way, at this point of access
+fits_way : (heap : Heap) (seat : Seat) (reached links part : ℕ) (address : Spot) (loaded : ℕ) (point : Access) → Rests heap seat → reached < 16 * heap.groups → FitsSpot address
     → IsWithinHeap heap (head_of loaded)
-    → FitsAccess (record seat { reached = reached; links = links; part = part; address = address; loaded = loaded; place = places.Access place }) place
-    → Fits heap (record seat { reached = reached; links = links; part = part; address = address; loaded = loaded; place = places.Access place })
-fits_way heap seat reached links part address loaded place rests within there led way = record {
+    → FitsAccess (record seat { reached = reached; links = links; part = part; address = address; loaded = loaded; point = points.Access point }) point
+    → Fits heap (record seat { reached = reached; links = links; part = part; address = address; loaded = loaded; point = points.Access point })
+fits_way heap seat reached links part address loaded point rests within there led way = record {
   own = rests.fits.own;
   hand = rests.fits.hand;
   way = record { reached_within = within; address_within = there; loaded_within = led };
   asked_small = rests.fits.asked_small;
-  at_place = rests.rest;
-  way_at_place = way;
-  answer_at_place = rests.silent;
+  at_point = rests.rest;
+  way_at_point = way;
+  answer_at_point = rests.silent;
   gone = left_aside_is_absurd rests.present;
 }
 
--- the seat at another place of reaching
-pub fits_at_access : (heap : Heap) (seat : Seat) (reached links part loaded : ℕ) (place : Access) → Rests heap seat → reached < 16 * heap.groups
+-- the seat at another point of reaching
+pub fits_at_access : (heap : Heap) (seat : Seat) (reached links part loaded : ℕ) (point : Access) → Rests heap seat → reached < 16 * heap.groups
     → IsWithinHeap heap (head_of loaded)
-    → FitsAccess (record seat { reached = reached; links = links; part = part; loaded = loaded; place = places.Access place }) place
-    → Fits heap (record seat { reached = reached; links = links; part = part; loaded = loaded; place = places.Access place })
-fits_at_access heap seat reached links part loaded place rests within led way =
-    fits_way heap seat reached links part seat.address loaded place rests within rests.fits.way.address_within led way
+    → FitsAccess (record seat { reached = reached; links = links; part = part; loaded = loaded; point = points.Access point }) point
+    → Fits heap (record seat { reached = reached; links = links; part = part; loaded = loaded; point = points.Access point })
+fits_at_access heap seat reached links part loaded point rests within led way =
+    fits_way heap seat reached links part seat.address loaded point rests within rests.fits.way.address_within led way
 
 -- the seat knows where the spine stands of the array that its way is in
-pub fits_with_address : (heap : Heap) (seat : Seat) (address : Spot) (place : Access) → Rests heap seat → FitsSpot address → FitsAccess (record seat { address = address; place = places.Access place }) place
-    → Fits heap (record seat { address = address; place = places.Access place })
-fits_with_address heap seat address place rests there way =
-    fits_way heap seat seat.reached seat.links seat.part address seat.loaded place rests rests.fits.way.reached_within there rests.fits.way.loaded_within way
+pub fits_with_address : (heap : Heap) (seat : Seat) (address : Spot) (point : Access) → Rests heap seat → FitsSpot address → FitsAccess (record seat { address = address; point = points.Access point }) point
+    → Fits heap (record seat { address = address; point = points.Access point })
+fits_with_address heap seat address point rests there way =
+    fits_way heap seat seat.reached seat.links seat.part address seat.loaded point rests rests.fits.way.reached_within there rests.fits.way.loaded_within way
 
 -- the call is over, with these registers and so many sets
 pub fits_after_sets : (heap : Heap) (seat : Seat) (registers : List Register) (sets : ℕ) → Rests heap seat → length registers ≡ 16

@@ -9,8 +9,8 @@ fits_with_entries heap seat more fits = record {
   hand = fits.hand;
   way = fits.way;
   asked_small = fits.asked_small;
-  at_place = fits.at_place;
-  way_at_place = fits.way_at_place;
-  answer_at_place = fits.answer_at_place;
+  at_point = fits.at_point;
+  way_at_point = fits.way_at_point;
+  answer_at_point = fits.answer_at_point;
   gone = λ left. record { idle = (fits.gone left).idle; no_reserve = (fits.gone left).no_reserve };
 }

@@ -17,12 +17,12 @@ module _ (fragments : List ℕ) where
   pub before_run_and_run_make_all : before_run fragments ++ run_of fragments ≡ fragments
   before_run_and_run_make_all = take-append-drop (length fragments - last_run fragments) fragments
 
-  -- one of them, by its place among all
+  -- one of them, by its position among all
   of_run : (i : ℕ) → length fragments - last_run fragments ≤ i → i < length fragments → in_group (last_group_of fragments) (get_or fragments i 0) ≡ true
   of_run i past within =
-      let place : length fragments - 1 - (length fragments - 1 - i) ≡ i = omega arith in
+      let position : length fragments - 1 - (length fragments - 1 - i) ≡ i = omega arith in
       let few = last_run-le in
-      ap (λ (k : ℕ). in_group (last_group_of fragments) (get_or fragments k 0)) (sym place)
+      ap (λ (k : ℕ). in_group (last_group_of fragments) (get_or fragments k 0)) (sym position)
       ∙ ap (in_group (last_group_of fragments)) (sym (get_or-reverse fragments (length fragments - 1 - i) 0 (omega arith)))
       ∙ prefix_len_passes (in_group (last_group_of fragments)) (reverse fragments) (length fragments - 1 - i) 0 (omega arith)
 
@@ -40,9 +40,9 @@ module _ (fragments : List ℕ) where
   some_run some =
       let group = last_group_of fragments in
       let long = length-reverse fragments in
-      let place : length fragments - 1 - 0 ≡ length fragments - 1 = omega arith in
+      let position : length fragments - 1 - 0 ≡ length fragments - 1 = omega arith in
       let last : in_group group (get_or (reverse fragments) 0 0) ≡ true =
-      ap (in_group group) (get_or-reverse fragments 0 0 some ∙ ap (λ (k : ℕ). get_or fragments k 0) place) ∙ eq-eqb group group refl in
+      ap (in_group group) (get_or-reverse fragments 0 0 some ∙ ap (λ (k : ℕ). get_or fragments k 0) position) ∙ eq-eqb group group refl in
       elim (leb_tells 1 (last_run fragments)) as (λ _. 0 < last_run fragments) [
         | inl yes_ ↦ yes_.1
         | inr no_ ↦

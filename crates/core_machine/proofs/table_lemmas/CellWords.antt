@@ -7,17 +7,17 @@ use Rattle.heap_words.specs.Cell.{cell_word, cell_of}
 use Rattle.core_machine.proofs.Terms.{payload_in}
 use Rattle.heap_words.specs.Newborn.{spine_word}
 
--- the parts of a word
-parts : (k v s : ℕ) → v < 2 ^ 30 → s < 2 ^ 32
+-- the components of a word
+components : (k v s : ℕ) → v < 2 ^ 30 → s < 2 ^ 32
     → ((k * 2 ^ 62 + v * 2 ^ 32 + s) / 2 ^ 62 ≡ k) × ((k * 2 ^ 62 + v * 2 ^ 32 + s) / 2 ^ 32 % 2 ^ 30 ≡ v) × ((k * 2 ^ 62 + v * 2 ^ 32 + s) % 2 ^ 32 ≡ s)
-parts k v s p number = (omega arith, omega arith, omega arith)
+components k v s p number = (omega arith, omega arith, omega arith)
 
 pub cell_of-cell_word : (kind : Kind) (value stamp : ℕ) → value < 2 ^ 30 → stamp < 2 ^ 32
     → cell_of (cell_word (record { kind = kind; value = value; stamp = stamp })) ≡ record { kind = kind; value = value; stamp = stamp }
-cell_of-cell_word kinds.Nil value stamp p number = let e = parts 0 value stamp p number in rw (e.0, e.1, e.2) refl
-cell_of-cell_word kinds.Number value stamp p number = let e = parts 1 value stamp p number in rw (e.0, e.1, e.2) refl
-cell_of-cell_word kinds.Reference value stamp p number = let e = parts 2 value stamp p number in rw (e.0, e.1, e.2) refl
-cell_of-cell_word kinds.Fixed value stamp p number = let e = parts 3 value stamp p number in rw (e.0, e.1, e.2) refl
+cell_of-cell_word kinds.Nil value stamp p number = let e = components 0 value stamp p number in rw (e.0, e.1, e.2) refl
+cell_of-cell_word kinds.Number value stamp p number = let e = components 1 value stamp p number in rw (e.0, e.1, e.2) refl
+cell_of-cell_word kinds.Reference value stamp p number = let e = components 2 value stamp p number in rw (e.0, e.1, e.2) refl
+cell_of-cell_word kinds.Fixed value stamp p number = let e = components 3 value stamp p number in rw (e.0, e.1, e.2) refl
 
 -- a spine word names its fragment
 pub payload_in-spine_word : (fragment : ℕ) → fragment < 2 ^ 30 → payload_in (spine_word fragment) ≡ fragment

@@ -84,9 +84,9 @@ clear_among-zeros group word (suc count) few =
     let e : suc count ≡ count + 1 = omega arith in
     let rest = clear_among-zeros group word count (omega arith) in
     let more = ones_in-more count (bit_not w16 (word % 2 ^ 16)) in
-    let place : (16 * group + count) % 16 ≡ count = omega arith in
+    let position : (16 * group + count) % 16 ≡ count = omega arith in
     let one : length (cond (is_clear word (16 * group + count)) ((16 * group + count) ∷ []) []) ≡ 1 - bit_at word count =
-    length-one word (16 * group + count) ∙ ap (λ (i : ℕ). 1 - bit_at word i) place in
+    length-one word (16 * group + count) ∙ ap (λ (i : ℕ). 1 - bit_at word i) position in
     let not_ = bit_at_not w16 (word % 2 ^ 16) count (omega arith) (omega arith) in
     let bit = taken_bit word count (omega arith) in
     let long = ap length (clear_among-more group word count) ∙ length-append (clear_among group word count) (cond (is_clear word (16 * group + count)) ((16 * group + count) ∷ []) []) in

@@ -5,17 +5,17 @@ use Rattle.std.specs.List.{range_with_len}
 use Rattle.heap_words.specs.Control.{is_grey, lowest_grey_of}
 use Rattle.core_machine.proofs.table_lemmas.FindLemmas.{found_is_within, found_number_passes, none_found_none_passes}
 
--- the place that is found
-pub lowest_grey_within_group : (word : ℕ) → IfSome (lowest_grey_of word) (λ place. place < 16)
+-- the position that is found
+pub lowest_grey_within_group : (word : ℕ) → IfSome (lowest_grey_of word) (λ position. position < 16)
 lowest_grey_within_group word = found_is_within (is_grey word) 0 16
 
-pub grey_place_within_group : (word place : ℕ) → lowest_grey_of word ≡ Some place → place < 16
-grey_place_within_group word place is = rw is at (lowest_grey_within_group word)
+pub grey_position_within_group : (word position : ℕ) → lowest_grey_of word ≡ Some position → position < 16
+grey_position_within_group word position is = rw is at (lowest_grey_within_group word)
 
 -- the one that is found is grey
-pub found_place_is_grey : (word place : ℕ) → lowest_grey_of word ≡ Some place → is_grey word place ≡ true
-found_place_is_grey word place is = found_number_passes (is_grey word) (range_with_len 0 16) place is
+pub found_position_is_grey : (word position : ℕ) → lowest_grey_of word ≡ Some position → is_grey word position ≡ true
+found_position_is_grey word position is = found_number_passes (is_grey word) (range_with_len 0 16) position is
 
 -- where none is found none of the sixteen is grey
-pub none_found_none_grey : (word place : ℕ) → lowest_grey_of word ≡ None → place < 16 → is_grey word place ≡ false
-none_found_none_grey word place none within = none_found_none_passes (is_grey word) 0 16 place none (omega arith) within
+pub none_found_none_grey : (word position : ℕ) → lowest_grey_of word ≡ None → position < 16 → is_grey word position ≡ false
+none_found_none_grey word position none within = none_found_none_passes (is_grey word) 0 16 position none (omega arith) within

@@ -9,7 +9,7 @@ use Rattle.std.proofs.lemmas.Nat.Bits.{bit_at_or, bit_at_and, bit_at_not, bit_at
 use Rattle.core_machine.proofs.Terms.{is_clear, clear_among, clear_in, mask_of, all_taken, word_without_taken}
 use Rattle.core_machine.proofs.table_lemmas.Clear.{clear_among-more, clear_among-zero}
 
--- whether some fragment of the list has place i in its group, as a bit
+-- whether some fragment of the list has position i in its group, as a bit
 abbrev pub some_at : ℕ → List ℕ → ℕ
 some_at i [] = 0
 some_at i (fragment ∷ more) = max (cond (eqb (fragment % 16) i) 1 0) (some_at i more)
@@ -35,12 +35,12 @@ mask_from bits (fragment ∷ more) i =
     let one = one_bit fragment i in
     omega arith
 
--- a bit of a mask tells whether some fragment has its place
+-- a bit of a mask tells whether some fragment has its position
 pub mask-bit : (fragments : List ℕ) (i : ℕ) → bit_at (mask_of fragments) i ≡ some_at i fragments
 unfolding mask_of
 mask-bit fragments i = let all = mask_from 0 fragments i in let zero_ = bit_at-zero i in omega arith
 
--- a fragment's place is below sixteen
+-- a fragment's position is below sixteen
 some_at-above : (i : ℕ) (fragments : List ℕ) → 16 ≤ i → some_at i fragments ≡ 0
 some_at-above i [] above = refl
 some_at-above i (fragment ∷ more) above =
@@ -61,10 +61,10 @@ mask_is_small fragments = mask_from-lt 0 fragments (omega arith)
 last_at : (group word count i : ℕ) → count < 16
     → some_at i (cond (is_clear word (16 * group + count)) ((16 * group + count) ∷ []) []) ≡ cond (eqb count i) (1 - bit_at word count) 0
 last_at group word count i within =
-    let place : (16 * group + count) % 16 ≡ count = omega arith in
+    let position : (16 * group + count) % 16 ≡ count = omega arith in
     let small = bit_at-lt word count in
-    rw place (elim (eqb_tells (bit_at word count) 0) as (λ _. some_at i (cond (eqb (bit_at word count) 0) ((16 * group + count) ∷ []) []) ≡ cond (eqb count i) (1 - bit_at word count) 0) [
-      | inl unset ↦ rw (unset.0, place, unset.1) (omega arith)
+    rw position (elim (eqb_tells (bit_at word count) 0) as (λ _. some_at i (cond (eqb (bit_at word count) 0) ((16 * group + count) ∷ []) []) ≡ cond (eqb count i) (1 - bit_at word count) 0) [
+      | inl unset ↦ rw (unset.0, position, unset.1) (omega arith)
       | inr is_set ↦ let one : bit_at word count ≡ 1 = omega (arith, is_set.1) in rw (is_set.0, one) (elim (eqb_tells count i) as (λ _. 0 ≡ cond (eqb count i) (1 - 1) 0) [ inl a ↦ rw a.0 refl | inr b ↦ rw b.0 refl ])
     ])
 
@@ -84,7 +84,7 @@ some_at-clear_above group word (suc count) i few above =
     let out : eqb count i ≡ false = ne_eqb count i (λ e. absurd (omega arith)) in
     clear_at-more group word count i (omega arith) ∙ rw (rest, out) refl
 
--- among the clear fragments is one of place i exactly where the word's bit isn't set
+-- among the clear fragments is one of position i exactly where the word's bit isn't set
 pub some_at-clear : (group word count i : ℕ) → count ≤ 16 → i < count → some_at i (clear_among group word count) ≡ 1 - bit_at word i
 some_at-clear group word zero i few within = absurd (omega arith)
 some_at-clear group word (suc count) i few within =

@@ -13,12 +13,12 @@ use Rattle.core_machine.specs.declared.step.SpineStep.TheVariants.{BudgetAdd}
 use Rattle.core_machine.specs.calls.Kept.{Kept}
 use Rattle.core_machine.specs.seat.Commands.{IsArrayCall}
 use Rattle.core_machine.specs.seat.Making.{first_group_of}
-use Rattle.core_machine.specs.table.Fragments.{part_in, part_out, clear_in}
+use Rattle.core_machine.specs.table.Fragments.{inside_group, outside_group, clear_in}
 
 -- so many of the hand's fragments are of its first fragment's group, and so on with the others
 abbrev pub AreGroupsOf : List ℕ → List ℕ → Type 0
 AreGroupsOf [] hand = hand ≡ []
-AreGroupsOf (count ∷ counts) hand = IsGroupCount count × (length (part_in (first_group_of hand) hand) ≡ count) × AreGroupsOf counts (part_out (first_group_of hand) hand)
+AreGroupsOf (count ∷ counts) hand = IsGroupCount count × (length (inside_group (first_group_of hand) hand) ≡ count) × AreGroupsOf counts (outside_group (first_group_of hand) hand)
 
 -- what was claimed so far: before the last claim it was too little
 pub record HasTaken (number unborn need : ℕ) (hand : List ℕ) (told : List Entry) : Type 0 where
@@ -45,7 +45,7 @@ AreOfTried groups cursor tried fragments = All (λ fragment. (i : ℕ) × (i < t
 pub record ClaimsGroup (tells : Step → ℕ → Type 0) (hand : List ℕ) (group : ℕ) : Type 0 where
   pub word : ℕ
   pub told : tells (Making (Claim group)) word
-  pub got : part_in group hand ≡ clear_in group word
+  pub got : inside_group group hand ≡ clear_in group word
 
 -- the spine words were asked for, and beside those that were found to be granted or asked for they aren't too many
 pub record IsGranted (tells : Step → ℕ → Type 0) (heap : Heap) (command : Command) : Type 0 where

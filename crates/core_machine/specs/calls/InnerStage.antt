@@ -8,12 +8,12 @@ use Rattle.heap_model.specs.declared.entry.Entry.{Entry}
 use Rattle.heap_model.specs.declared.entry.Entry.TheVariants.{Said, Answers}
 use Rattle.core_machine.specs.calls.Kept.{Kept, kept_of, IsUntold}
 use Rattle.core_machine.specs.calls.OwnStage.{HasAsked}
-use Rattle.core_machine.specs.declared.place.Collecting.{Collecting}
-use Rattle.core_machine.specs.declared.place.Collecting.TheVariants.{Looking, Asking, Comparing, Noting}
-use Rattle.core_machine.specs.declared.place.Place.{Place}
-use Rattle.core_machine.specs.declared.place.Place.TheVariants as places
-use Rattle.core_machine.specs.declared.place.Polling.{Polling}
-use Rattle.core_machine.specs.declared.place.Polling.TheVariants as polling
+use Rattle.core_machine.specs.declared.point.Collecting.{Collecting}
+use Rattle.core_machine.specs.declared.point.Collecting.TheVariants.{Looking, Asking, Comparing, Noting}
+use Rattle.core_machine.specs.declared.point.Point.{Point}
+use Rattle.core_machine.specs.declared.point.Point.TheVariants as points
+use Rattle.core_machine.specs.declared.point.Polling.{Polling}
+use Rattle.core_machine.specs.declared.point.Polling.TheVariants as polling
 use Rattle.core_machine.specs.declared.step.Step.{Step}
 use Rattle.core_machine.specs.declared.step.Step.TheVariants as steps
 use Rattle.core_machine.specs.declared.step.TurningStep.TheVariants.{LookLoad}
@@ -58,31 +58,31 @@ IsInnerOver tells number before kept told Answer = HasAnswered tells number befo
 IsInnerOver tells number before kept told (Behind other) = HasCompared tells other before kept told
 IsInnerOver tells number before kept told (Note reply) = HasNoted tells number reply before kept told
 
--- at each place of an inner call but the answer
+-- at each point of an inner call but the answer
 abbrev pub InnerCollecting : (Step → ℕ → Type 0) → Inner → Kept → Seat → List Entry → Collecting → Type 0
 InnerCollecting tells inner before seat told Looking = (inner ≡ Look) × IsUntold before (kept_of seat) told
 InnerCollecting tells inner before seat told (Asking other) = (inner ≡ Behind other) × IsUntold before (kept_of seat) told
 InnerCollecting tells inner before seat told (Comparing other phase) = (inner ≡ Behind other) × HasAsked tells before (kept_of seat) phase told
 InnerCollecting tells inner before seat told (Noting reply) = (inner ≡ Note reply) × IsUntold before (kept_of seat) told
 
--- at each place of the answer
+-- at each point of the answer
 abbrev pub InnerAnswering : (Step → ℕ → Type 0) → Kept → Seat → List Entry → Polling → Type 0
 InnerAnswering tells before seat told polling.Asking = IsUntold before (kept_of seat) told
 InnerAnswering tells before seat told polling.Shading = HasAsked tells before (kept_of seat) seat.asked told
 InnerAnswering tells before seat told polling.Answering = HasAsked tells before (kept_of seat) seat.asked told
 
--- at each place
-abbrev pub InnerStageAt : (Step → ℕ → Type 0) → ℕ → Inner → Kept → Seat → List Entry → Place → Type 0
-InnerStageAt tells number inner before seat told places.Idle = IsInnerOver tells number before (kept_of seat) told inner
-InnerStageAt tells number inner before seat told (places.Collecting place) = InnerCollecting tells inner before seat told place
-InnerStageAt tells number inner before seat told (places.Polling place) = (inner ≡ Answer) × InnerAnswering tells before seat told place
-InnerStageAt tells number inner before seat told (places.Making place) = ⊥
-InnerStageAt tells number inner before seat told places.Local = ⊥
-InnerStageAt tells number inner before seat told (places.Access place) = ⊥
-InnerStageAt tells number inner before seat told (places.Leaving place) = ⊥
+-- at each point
+abbrev pub InnerStageAt : (Step → ℕ → Type 0) → ℕ → Inner → Kept → Seat → List Entry → Point → Type 0
+InnerStageAt tells number inner before seat told points.Idle = IsInnerOver tells number before (kept_of seat) told inner
+InnerStageAt tells number inner before seat told (points.Collecting point) = InnerCollecting tells inner before seat told point
+InnerStageAt tells number inner before seat told (points.Polling point) = (inner ≡ Answer) × InnerAnswering tells before seat told point
+InnerStageAt tells number inner before seat told (points.Making point) = ⊥
+InnerStageAt tells number inner before seat told points.Local = ⊥
+InnerStageAt tells number inner before seat told (points.Access point) = ⊥
+InnerStageAt tells number inner before seat told (points.Leaving point) = ⊥
 
 -- an inner call stands so that was begun by the old seat, where so much is told of each word that its steps have found
 pub record OwnInnerStage (tells : Step → ℕ → Type 0) (number : ℕ) (inner : Inner) (old seat : Seat) (told : List Entry) : Type 0 where
   pub same : seat.command ≡ Collect
   pub mine : seat.mine ≡ old.mine ++ told
-  pub stage : InnerStageAt tells number inner (kept_of old) seat told seat.place
+  pub stage : InnerStageAt tells number inner (kept_of old) seat told seat.point

@@ -1,24 +1,24 @@
--- How many steps and entries a call in flight has still to make, by its place.
+-- How many steps and entries a call in flight has still to make, by its point.
 use Rattle.std.specs.Prelude.{ℕ, ◌+◌, ◌-◌, ◌*◌, ◌<◌, ◌≤◌, length}
 use Rattle.heap_model.specs.declared.heap.Heap.{Heap}
-use Rattle.core_machine.specs.declared.place.Place.{Place}
-use Rattle.core_machine.specs.declared.place.Place.TheVariants as places
-use Rattle.core_machine.specs.declared.place.Making.{Making}
-use Rattle.core_machine.specs.declared.place.Access.{Access}
-use Rattle.core_machine.specs.declared.place.Access.TheVariants.{LoadingMeta, Walking, LoadingSpot, Indexing, Getting, Naming, LoadingOld, ShadingOld, ShadingNew, Swapping}
-use Rattle.core_machine.specs.declared.place.Polling.{Polling}
-use Rattle.core_machine.specs.declared.place.Polling.TheVariants.{Asking, Shading, Answering}
-use Rattle.core_machine.specs.declared.place.Collecting.{Collecting}
-use Rattle.core_machine.specs.declared.place.Collecting.TheVariants.{Looking, Asking as AskingBehind, Comparing, Noting}
-use Rattle.core_machine.specs.declared.place.Leaving.TheVariants as leaving
+use Rattle.core_machine.specs.declared.point.Point.{Point}
+use Rattle.core_machine.specs.declared.point.Point.TheVariants as points
+use Rattle.core_machine.specs.declared.point.Making.{Making}
+use Rattle.core_machine.specs.declared.point.Access.{Access}
+use Rattle.core_machine.specs.declared.point.Access.TheVariants.{LoadingMeta, Walking, LoadingSpot, Indexing, Getting, Naming, LoadingOld, ShadingOld, ShadingNew, Swapping}
+use Rattle.core_machine.specs.declared.point.Polling.{Polling}
+use Rattle.core_machine.specs.declared.point.Polling.TheVariants.{Asking, Shading, Answering}
+use Rattle.core_machine.specs.declared.point.Collecting.{Collecting}
+use Rattle.core_machine.specs.declared.point.Collecting.TheVariants.{Looking, Asking as AskingBehind, Comparing, Noting}
+use Rattle.core_machine.specs.declared.point.Leaving.TheVariants as leaving
 use Rattle.core_machine.specs.seat.Access.{row_of}
 use Rattle.core_machine.specs.seat.Commands.{field_of}
 use Rattle.core_machine.specs.seat.Handshake.{roots}
-use Rattle.core_machine.specs.declared.place.Making.TheVariants.{Granting, Withdrawing, Gathering, GivingBack, Refusing, Placing, Listing, Storing, Bearing}
+use Rattle.core_machine.specs.declared.point.Making.TheVariants.{Granting, Withdrawing, Gathering, GivingBack, Refusing, Placing, Listing, Storing, Bearing}
 use Rattle.core_machine.specs.seat.Seat.{Seat, need, spine_need}
 use Rattle.core_machine.specs.seat.Making.{fragments_gathered}
 
--- the most entries that the making of an object adds from its place on
+-- the most entries that the making of an object adds from its point on
 abbrev pub owes_making : Seat → Making → ℕ
 owes_making seat Granting = 2 * need seat
 owes_making seat Withdrawing = 1
@@ -30,22 +30,22 @@ owes_making seat Listing = 1
 owes_making seat Storing = 1
 owes_making seat Bearing = 1
 
--- the most entries that a call adds from its place on
-abbrev pub owes_at : Seat → Place → ℕ
-owes_at seat places.Idle = 0
-owes_at seat (places.Making place) = owes_making seat place
-owes_at seat places.Local = 1
-owes_at seat (places.Access place) = 1
-owes_at seat (places.Polling place) = 2
-owes_at seat (places.Collecting place) = 1
-owes_at seat (places.Leaving leaving.Emptying) = 2
-owes_at seat (places.Leaving leaving.Parting) = 1
+-- the most entries that a call adds from its point on
+abbrev pub owes_at : Seat → Point → ℕ
+owes_at seat points.Idle = 0
+owes_at seat (points.Making point) = owes_making seat point
+owes_at seat points.Local = 1
+owes_at seat (points.Access point) = 1
+owes_at seat (points.Polling point) = 2
+owes_at seat (points.Collecting point) = 1
+owes_at seat (points.Leaving leaving.Emptying) = 2
+owes_at seat (points.Leaving leaving.Parting) = 1
 
 -- the most entries that the seat's call still adds
 abbrev pub owes : Seat → ℕ
-owes seat = owes_at seat seat.place
+owes seat = owes_at seat seat.point
 
--- the most steps that the making of an object takes from its place on
+-- the most steps that the making of an object takes from its point on
 abbrev pub making_steps : Heap → Seat → Making → ℕ
 making_steps heap seat Granting = heap.groups + 5 * need seat + spine_need seat + 2
 making_steps heap seat Withdrawing = 1
@@ -83,20 +83,20 @@ collecting_steps (AskingBehind other) = 2
 collecting_steps (Comparing other phase) = 1
 collecting_steps (Noting reply) = 1
 
--- the most steps that a call makes from its place on
-abbrev pub steps_at : Heap → Seat → Place → ℕ
-steps_at heap seat places.Idle = 0
-steps_at heap seat (places.Making place) = making_steps heap seat place
-steps_at heap seat places.Local = 1
-steps_at heap seat (places.Access place) = access_steps (row_of (field_of seat.command)) seat.links place
-steps_at heap seat (places.Polling place) = polling_steps seat place
-steps_at heap seat (places.Collecting place) = collecting_steps place
-steps_at heap seat (places.Leaving leaving.Emptying) = 2
-steps_at heap seat (places.Leaving leaving.Parting) = 1
+-- the most steps that a call makes from its point on
+abbrev pub steps_at : Heap → Seat → Point → ℕ
+steps_at heap seat points.Idle = 0
+steps_at heap seat (points.Making point) = making_steps heap seat point
+steps_at heap seat points.Local = 1
+steps_at heap seat (points.Access point) = access_steps (row_of (field_of seat.command)) seat.links point
+steps_at heap seat (points.Polling point) = polling_steps seat point
+steps_at heap seat (points.Collecting point) = collecting_steps point
+steps_at heap seat (points.Leaving leaving.Emptying) = 2
+steps_at heap seat (points.Leaving leaving.Parting) = 1
 
 -- the most steps that the seat's call still makes
 abbrev pub steps_left : Heap → Seat → ℕ
-steps_left heap seat = steps_at heap seat seat.place
+steps_left heap seat = steps_at heap seat seat.point
 
 -- fewer steps are left, and no more entries than the move leaves room for
 pub record Nears (heap : Heap) (seat : Seat) (owed steps : ℕ) (added : ℕ) : Type 0 where

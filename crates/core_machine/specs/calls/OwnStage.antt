@@ -10,16 +10,16 @@ use Rattle.core_machine.specs.calls.Kept.{Kept, kept_of, IsUntold}
 use Rattle.core_machine.specs.calls.Making.{HasObject, HasSpine, name_after, HasStored, HasBorn}
 use Rattle.core_machine.specs.calls.Reaching.{GoesByLinks, GoesBySpine, HasLocated, ReachesField}
 use Rattle.core_machine.specs.calls.Replies.{IsAnswered}
-use Rattle.core_machine.specs.declared.place.Access.{Access}
-use Rattle.core_machine.specs.declared.place.Access.TheVariants.{LoadingMeta, Walking, LoadingSpot, Indexing, Getting, Naming, LoadingOld, ShadingOld, ShadingNew, Swapping}
-use Rattle.core_machine.specs.declared.place.Leaving.{Leaving}
-use Rattle.core_machine.specs.declared.place.Leaving.TheVariants as leaving
-use Rattle.core_machine.specs.declared.place.Making.{Making}
-use Rattle.core_machine.specs.declared.place.Making.TheVariants.{Granting, Withdrawing, Gathering, GivingBack, Refusing, Placing, Listing, Storing, Bearing}
-use Rattle.core_machine.specs.declared.place.Place.{Place}
-use Rattle.core_machine.specs.declared.place.Place.TheVariants as places
-use Rattle.core_machine.specs.declared.place.Polling.{Polling}
-use Rattle.core_machine.specs.declared.place.Polling.TheVariants.{Asking, Shading, Answering}
+use Rattle.core_machine.specs.declared.point.Access.{Access}
+use Rattle.core_machine.specs.declared.point.Access.TheVariants.{LoadingMeta, Walking, LoadingSpot, Indexing, Getting, Naming, LoadingOld, ShadingOld, ShadingNew, Swapping}
+use Rattle.core_machine.specs.declared.point.Leaving.{Leaving}
+use Rattle.core_machine.specs.declared.point.Leaving.TheVariants as leaving
+use Rattle.core_machine.specs.declared.point.Making.{Making}
+use Rattle.core_machine.specs.declared.point.Making.TheVariants.{Granting, Withdrawing, Gathering, GivingBack, Refusing, Placing, Listing, Storing, Bearing}
+use Rattle.core_machine.specs.declared.point.Point.{Point}
+use Rattle.core_machine.specs.declared.point.Point.TheVariants as points
+use Rattle.core_machine.specs.declared.point.Polling.{Polling}
+use Rattle.core_machine.specs.declared.point.Polling.TheVariants.{Asking, Shading, Answering}
 use Rattle.core_machine.specs.declared.step.AccessStep.TheVariants.{GetLoad}
 use Rattle.core_machine.specs.declared.step.SpineStep.TheVariants.{BudgetAdd}
 use Rattle.core_machine.specs.declared.step.Step.{Step}
@@ -40,7 +40,7 @@ HasStoredOf tells number before seat = HasStored tells seat.command (name_after 
 abbrev pub HasObjectOf : (Step → ℕ → Type 0) → Heap → ℕ → Kept → Seat → List Entry → Type 0
 HasObjectOf tells heap number before seat told = HasObject tells heap number seat.command before (kept_of seat) seat.body told
 
--- at each place of making
+-- at each point of making
 abbrev pub MakingStage : (Step → ℕ → Type 0) → Heap → ℕ → Kept → Seat → List Entry → Making → Type 0
 MakingStage tells heap number before seat told Granting = IsUntold before (kept_of seat) told
 MakingStage tells heap number before seat told Withdrawing = IsUntold before (kept_of seat) told × tells (steps.Spine (BudgetAdd (spine_need seat))) seat.used
@@ -54,7 +54,7 @@ MakingStage tells heap number before seat told Storing =
 MakingStage tells heap number before seat told Bearing =
     HasObjectOf tells heap number before seat told × HasSpineOf tells seat × HasStoredOf tells number before seat × HasBorn tells seat.hand seat.body
 
--- at each place of reading or writing, where the object was opened
+-- at each point of reading or writing, where the object was opened
 abbrev pub AccessStage : (Step → ℕ → Type 0) → Kept → Seat → Access → Type 0
 AccessStage tells before seat LoadingMeta = Unit {0}
 AccessStage tells before seat Walking = GoesByLinks tells seat.command before seat.reached seat.links seat.part
@@ -74,7 +74,7 @@ pub record HasAsked (tells : Step → ℕ → Type 0) (before kept : Kept) (aske
   pub kept_is : kept ≡ record before { looks = seen_phase asked before.looks }
   pub none_told : told ≡ []
 
--- at each place of a poll
+-- at each point of a poll
 abbrev pub PollingStage : (Step → ℕ → Type 0) → Kept → Seat → List Entry → Polling → Type 0
 PollingStage tells before seat told Asking = IsUntold before (kept_of seat) told
 PollingStage tells before seat told Shading = HasAsked tells before (kept_of seat) seat.asked told
@@ -85,23 +85,23 @@ pub record HasEmptied (number : ℕ) (before kept : Kept) (told : List Entry) : 
   pub kept_is : kept ≡ record before { reserve = [] }
   pub gives : told ≡ last_gives number (length before.reserve)
 
--- at each place of a leave
+-- at each point of a leave
 abbrev pub LeavingStage : ℕ → Kept → Seat → List Entry → Leaving → Type 0
 LeavingStage number before seat told leaving.Emptying = IsUntold before (kept_of seat) told
 LeavingStage number before seat told leaving.Parting = HasEmptied number before (kept_of seat) told
 
--- at each place of a served call
-abbrev pub StageAt : (Step → ℕ → Type 0) → Heap → ℕ → Kept → Seat → List Entry → Place → Type 0
-StageAt tells heap number before seat told places.Idle = IsAnswered tells heap number seat.command before (kept_of seat) told
-StageAt tells heap number before seat told (places.Making place) = MakingStage tells heap number before seat told place
-StageAt tells heap number before seat told places.Local = IsUntold before (kept_of seat) told
-StageAt tells heap number before seat told (places.Access place) = IsUntold before (kept_of seat) told × AccessStage tells before seat place
-StageAt tells heap number before seat told (places.Polling place) = (seat.command ≡ commands.Poll) × PollingStage tells before seat told place
-StageAt tells heap number before seat told (places.Collecting place) = ⊥
-StageAt tells heap number before seat told (places.Leaving place) = LeavingStage number before seat told place
+-- at each point of a served call
+abbrev pub StageAt : (Step → ℕ → Type 0) → Heap → ℕ → Kept → Seat → List Entry → Point → Type 0
+StageAt tells heap number before seat told points.Idle = IsAnswered tells heap number seat.command before (kept_of seat) told
+StageAt tells heap number before seat told (points.Making point) = MakingStage tells heap number before seat told point
+StageAt tells heap number before seat told points.Local = IsUntold before (kept_of seat) told
+StageAt tells heap number before seat told (points.Access point) = IsUntold before (kept_of seat) told × AccessStage tells before seat point
+StageAt tells heap number before seat told (points.Polling point) = (seat.command ≡ commands.Poll) × PollingStage tells before seat told point
+StageAt tells heap number before seat told (points.Collecting point) = ⊥
+StageAt tells heap number before seat told (points.Leaving point) = LeavingStage number before seat told point
 
 -- a served call stands so that was begun by the old seat, where so much is told of each word that its steps have found
 pub record OwnStage (tells : Step → ℕ → Type 0) (heap : Heap) (number : ℕ) (command : Command) (old seat : Seat) (told : List Entry) : Type 0 where
   pub same : seat.command ≡ command
   pub mine : seat.mine ≡ old.mine ++ told
-  pub stage : StageAt tells heap number (kept_of old) seat told seat.place
+  pub stage : StageAt tells heap number (kept_of old) seat told seat.point

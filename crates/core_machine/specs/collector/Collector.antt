@@ -17,7 +17,7 @@ pub use Rattle.core_machine.specs.collector.Marking.{lowest_grey_of, after_last_
 pub use Rattle.core_machine.specs.collector.MarkingTurns.{pass_turn, scan_turn, shade_turn, address_turn, index_turn, spread_turn, blacken_turn}
 pub use Rattle.core_machine.specs.collector.Copying.{marked_bits_of, left_half, next_half, after_visited, after_seen, after_visit, visit_on, after_inspected, after_located, copy_at, after_claimed, after_copied}
 pub use Rattle.core_machine.specs.collector.CopyingTurns.{flip_turn, visited, sentinel_at, copying_step, after_copying, copying_adds, copying_turn}
-pub use Rattle.core_machine.specs.collector.Sweeping.{dead_bits_of, next_place_of, taken_count_of, after_swept, after_examined, after_freed, after_cleared}
+pub use Rattle.core_machine.specs.collector.Sweeping.{dead_bits_of, next_position_of, taken_count_of, after_swept, after_examined, after_freed, after_cleared}
 pub use Rattle.core_machine.specs.collector.SweepingTurns.{sweep_turn, examine_turn, free_turn, return_turn, clear_turn}
 
 -- the collector at the opening
@@ -104,7 +104,7 @@ turn_at heap collector (stages.Blackening scan) = blacken_turn collector scan
 turn_at heap collector stages.Flipping = flip_turn collector
 turn_at heap collector (stages.Copying stage) = copying_turn heap collector stage
 turn_at heap collector (stages.Sweeping group) = sweep_turn heap collector group
-turn_at heap collector (stages.Examining group dead place words) = examine_turn heap collector group dead place words
+turn_at heap collector (stages.Examining group dead position words) = examine_turn heap collector group dead position words
 turn_at heap collector (stages.Freeing group dead words) = free_turn heap collector group dead words
 turn_at heap collector (stages.Returning group words) = return_turn heap collector group words
 turn_at heap collector (stages.Clearing group kept) = clear_turn heap collector group kept

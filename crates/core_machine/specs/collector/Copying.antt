@@ -11,7 +11,7 @@ use Rattle.core_machine.specs.declared.collector.stage.SpineCopy.{SpineCopy}
 use Rattle.core_machine.specs.declared.collector.stage.Stage.{Stage}
 use Rattle.core_machine.specs.declared.collector.stage.Stage.TheVariants as stages
 use Rattle.core_machine.specs.declared.collector.stage.Visit.{Visit}
-pub use Rattle.heap_words.specs.Control.{marked_bits_of, next_place_of}
+pub use Rattle.heap_words.specs.Control.{marked_bits_of, next_position_of}
 
 -- the half that a cycle's flip leaves
 abbrev pub left_half : ℕ → ℕ
@@ -28,15 +28,15 @@ after_visited heap group = if nat_lt (group + 1) heap.groups then stages.Copying
 -- the next marked fragment is looked at; behind the last one copying goes on to the next group
 abbrev pub after_seen : Heap → ℕ → ℕ → Option ℕ → Stage
 after_seen heap group marked None = after_visited heap group
-after_seen heap group marked (Some place) = stages.Copying (copying.Inspecting (record { group = group; marked = marked; place = place }))
+after_seen heap group marked (Some position) = stages.Copying (copying.Inspecting (record { group = group; marked = marked; position = position }))
 
 -- a group's control word was found: its first marked fragment is looked at
 abbrev pub after_visit : Heap → ℕ → ℕ → Stage
-after_visit heap group word = after_seen heap group (marked_bits_of word) (next_place_of (marked_bits_of word) 0)
+after_visit heap group word = after_seen heap group (marked_bits_of word) (next_position_of (marked_bits_of word) 0)
 
 -- nothing is left to do at the fragment of the visit: the next one comes
 abbrev pub visit_on : Heap → Visit → Stage
-visit_on heap visit = after_seen heap visit.group visit.marked (next_place_of visit.marked (visit.place + 1))
+visit_on heap visit = after_seen heap visit.group visit.marked (next_position_of visit.marked (visit.position + 1))
 
 -- the first word of a fragment was found: of an array, with so many cells, the name comes next
 abbrev pub after_inspected : Heap → Visit → Option ℕ → Stage

@@ -29,7 +29,7 @@ flip_turn collector = work_turn (steps.Copying (FlipStore (next_half collector.p
 
 -- the fragment at which a visit stands
 abbrev pub visited : Visit → ℕ
-visited visit = group_fragments * visit.group + visit.place
+visited visit = group_fragments * visit.group + visit.position
 
 -- the array's first fragment
 abbrev pub sentinel_at : ArrayAt → ℕ

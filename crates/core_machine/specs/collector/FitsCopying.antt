@@ -25,8 +25,8 @@ pub record IsCopying (seats phase looked : ℕ) : Type 0 where
 pub record FitsVisit (heap : Heap) (visit : Visit) : Type 0 where
   pub group_within : visit.group < heap.groups
   pub marked_within : visit.marked < 2 ^ 16
-  pub place_within : visit.place < 16
-  pub is_marked : bit_at visit.marked visit.place ≡ 1
+  pub position_within : visit.position < 16
+  pub is_marked : bit_at visit.marked visit.position ≡ 1
 
 -- an array was found at a visit's fragment, with no more spine words than a meta tells
 pub record FitsArrayAt (heap : Heap) (array : ArrayAt) : Type 0 where

@@ -83,12 +83,12 @@ pub record IsSweeping (heap : Heap) (phase looked group : ℕ) : Type 0 where
   pub group_within : group < heap.groups
 
 -- the sweep stands before a dead fragment of a group
-pub record IsExamining (heap : Heap) (phase looked group dead place words : ℕ) : Type 0 where
+pub record IsExamining (heap : Heap) (phase looked group dead position words : ℕ) : Type 0 where
   pub sweeps : IsSweeping heap phase looked group
   pub dead_within : dead < 2 ^ 16
-  pub place_within : place < 16
-  pub is_dead : bit_at dead place ≡ 1
-  pub words_few : words ≤ spine_most * place
+  pub position_within : position < 16
+  pub is_dead : bit_at dead position ≡ 1
+  pub words_few : words ≤ spine_most * position
 
 -- the sweep has looked at a group's dead fragments, of which there are some
 pub record IsFreeing (heap : Heap) (phase looked group dead words : ℕ) : Type 0 where
@@ -129,7 +129,7 @@ FitsStage heap phase looked (stages.Blackening scan) = IsBlackening heap phase l
 FitsStage heap phase looked stages.Flipping = IsMarking heap.seats phase looked
 FitsStage heap phase looked (stages.Copying stage) = IsCopying heap.seats phase looked × FitsCopying heap stage
 FitsStage heap phase looked (stages.Sweeping group) = IsSweeping heap phase looked group
-FitsStage heap phase looked (stages.Examining group dead place words) = IsExamining heap phase looked group dead place words
+FitsStage heap phase looked (stages.Examining group dead position words) = IsExamining heap phase looked group dead position words
 FitsStage heap phase looked (stages.Freeing group dead words) = IsFreeing heap phase looked group dead words
 FitsStage heap phase looked (stages.Returning group words) = IsReturning heap phase looked group words
 FitsStage heap phase looked (stages.Clearing group kept) = IsClearing heap phase looked group kept

@@ -23,7 +23,7 @@ after_group heap group found = if nat_lt (group + 1) heap.groups then stages.Pas
 -- a group's grey fragment is scanned, where it has one; else the pass goes on
 abbrev pub after_pass : Heap → ℕ → Bool → Option ℕ → Stage
 after_pass heap group found None = after_group heap group found
-after_pass heap group found (Some place) = stages.Scanning (record { fragment = group_fragments * group + place; part = 0; steps = 0 })
+after_pass heap group found (Some position) = stages.Scanning (record { fragment = group_fragments * group + position; part = 0; steps = 0 })
 
 -- the word that is scanned after this one, where that was found: behind a meta the name is passed over
 abbrev pub part_after : ℕ → ℕ → ℕ

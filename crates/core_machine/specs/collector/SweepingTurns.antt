@@ -7,7 +7,7 @@ use Rattle.heap_model.specs.Limits.{group_fragments}
 use Rattle.core_machine.specs.declared.step.CopyingStep.TheVariants.{BudgetReturn}
 use Rattle.core_machine.specs.declared.step.Step.TheVariants.{Copying, Turning}
 use Rattle.core_machine.specs.declared.step.TurningStep.TheVariants as turning
-use Rattle.core_machine.specs.collector.Sweeping.{dead_bits_of, next_place_of, taken_count_of, after_swept, after_examined, after_freed, after_cleared}
+use Rattle.core_machine.specs.collector.Sweeping.{dead_bits_of, next_position_of, taken_count_of, after_swept, after_examined, after_freed, after_cleared}
 use Rattle.core_machine.specs.collector.TurnMove.{Collector, TurnMove, work_turn}
 use Rattle.core_machine.specs.table.Decode.{spine_words_in}
 
@@ -15,13 +15,13 @@ use Rattle.core_machine.specs.table.Decode.{spine_words_in}
 abbrev pub sweep_turn : Heap → Collector → ℕ → TurnMove
 sweep_turn heap collector group =
     work_turn (Turning (turning.GroupLoad group))
-    (λ word. record collector { stage = after_examined heap group (dead_bits_of word) 0 (next_place_of (dead_bits_of word) 0) })
+    (λ word. record collector { stage = after_examined heap group (dead_bits_of word) 0 (next_position_of (dead_bits_of word) 0) })
 
 -- a dead fragment's first word is loaded: the spine words that it tells are counted, and the next one is looked at
 abbrev pub examine_turn : Heap → Collector → ℕ → ℕ → ℕ → ℕ → TurnMove
-examine_turn heap collector group dead place words =
-    work_turn (Turning (turning.MetaLoad (group_fragments * group + place)))
-    (λ word. record collector { stage = after_examined heap group dead (words + spine_words_in word) (next_place_of dead (place + 1)) })
+examine_turn heap collector group dead position words =
+    work_turn (Turning (turning.MetaLoad (group_fragments * group + position)))
+    (λ word. record collector { stage = after_examined heap group dead (words + spine_words_in word) (next_position_of dead (position + 1)) })
 
 -- the group's dead fragments are freed
 abbrev pub free_turn : Heap → Collector → ℕ → ℕ → ℕ → TurnMove

@@ -12,7 +12,7 @@ use Rattle.heap_model.specs.calls.SeatCalls.{ComesBefore, leave_entries}
 use Rattle.heap_model.specs.Needs.{spine_need_of}
 use Rattle.heap_model.specs.account.Space.{need_of}
 use Rattle.core_machine.specs.declared.table.address.Address.TheVariants.{Phase, Budget, Control}
-use Rattle.core_machine.specs.declared.place.Place.TheVariants.{Idle}
+use Rattle.core_machine.specs.declared.point.Point.TheVariants.{Idle}
 use Rattle.core_machine.specs.table.Fragments.{clear_in}
 use Rattle.core_machine.specs.table.Layout.{at, SameTable}
 use Rattle.core_machine.specs.machine.Machine.{State, seat_at, Event, Begins, Steps, Run, state_after_all, history}
@@ -42,7 +42,7 @@ pub record PlaysCall (heap : Heap) (old new : State) (number : ℕ) (command : C
   pub steps : ℕ
   pub can : Run heap old (call_events number command steps)
   pub ends : new ≡ state_after_all heap old (call_events number command steps)
-  pub idle : (seat_at new number).place ≡ Idle
+  pub idle : (seat_at new number).point ≡ Idle
   pub before : List Entry
   pub shown : history heap old (call_events number command steps) ≡ before ++ Said number command reply ∷ []
   pub mine : (seat_at new number).mine ≡ (seat_at old number).mine ++ (before ++ Said number command reply ∷ [])

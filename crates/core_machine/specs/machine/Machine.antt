@@ -6,9 +6,9 @@ use Rattle.heap_model.specs.declared.command.Command.{Command}
 use Rattle.heap_model.specs.declared.command.Command.TheVariants as commands
 use Rattle.heap_model.specs.declared.entry.Entry.{Entry}
 use Rattle.heap_model.specs.Command.{IsCommand}
-use Rattle.core_machine.specs.declared.place.Place.TheVariants.{Idle, Making, Local, Polling, Leaving}
-use Rattle.core_machine.specs.declared.place.Making.TheVariants.{Granting}
-use Rattle.core_machine.specs.declared.place.Polling.TheVariants.{Asking}
+use Rattle.core_machine.specs.declared.point.Point.TheVariants.{Idle, Making, Local, Polling, Leaving}
+use Rattle.core_machine.specs.declared.point.Making.TheVariants.{Granting}
+use Rattle.core_machine.specs.declared.point.Polling.TheVariants.{Asking}
 use Rattle.core_machine.specs.declared.step.Step.{Step}
 use Rattle.core_machine.specs.seat.Commands.{IsServed}
 use Rattle.core_machine.specs.table.Layout.{at, put}
@@ -17,9 +17,9 @@ use Rattle.core_machine.specs.seat.Seat.{Seat, absent_seat, HasNumberLeft}
 use Rattle.core_machine.specs.seat.Making.{gather_next}
 use Rattle.core_machine.specs.seat.Access.{access_start}
 use Rattle.core_machine.specs.seat.Registers.{register_in}
-use Rattle.core_machine.specs.seat.Handshake.{leave_place}
+use Rattle.core_machine.specs.seat.Handshake.{leave_point}
 use Rattle.core_machine.specs.seat.Looks.{MayMake}
-use Rattle.core_machine.specs.seat.Collecting.{inner_place}
+use Rattle.core_machine.specs.seat.Collecting.{inner_point}
 use Rattle.core_machine.specs.Moves.{Move, next_move, seat_after}
 pub use Rattle.core_machine.specs.collector.Collector.{Collector, TurnMove, next_turn, collector_after}
 
@@ -47,17 +47,17 @@ state_after_move heap state number move = record state {
 -- the seat where this call begins; a collect, which isn't served, begins nothing
 abbrev pub call_start : Heap → Seat → Command → Seat
 call_start heap seat (commands.New d fields) = gather_next heap seat
-call_start heap seat (commands.Array d cells) = record seat { place = Making Granting }
+call_start heap seat (commands.Array d cells) = record seat { point = Making Granting }
 call_start heap seat (commands.Get d r i) = access_start seat (register_in seat.registers r)
 call_start heap seat (commands.Set r i v) = access_start seat (register_in seat.registers r)
-call_start heap seat (commands.Num d n) = record seat { place = Local }
-call_start heap seat (commands.Nil d) = record seat { place = Local }
-call_start heap seat (commands.Copy d r) = record seat { place = Local }
-call_start heap seat (commands.Same a b) = record seat { place = Local }
+call_start heap seat (commands.Num d n) = record seat { point = Local }
+call_start heap seat (commands.Nil d) = record seat { point = Local }
+call_start heap seat (commands.Copy d r) = record seat { point = Local }
+call_start heap seat (commands.Same a b) = record seat { point = Local }
 call_start heap seat (commands.Len r) = access_start seat (register_in seat.registers r)
-call_start heap seat commands.Poll = record seat { place = Polling Asking }
+call_start heap seat commands.Poll = record seat { point = Polling Asking }
 call_start heap seat commands.Collect = seat
-call_start heap seat commands.Leave = record seat { place = Leaving (leave_place seat.reserve) }
+call_start heap seat commands.Leave = record seat { point = Leaving (leave_point seat.reserve) }
 
 -- the seat with this call in flight
 abbrev pub after_begin : Heap → Seat → Command → Seat
@@ -65,7 +65,7 @@ after_begin heap seat command = call_start heap (record seat { command = command
 
 -- the command may be begun: no call is in flight, the seat hasn't left, and the command is served and has its numbers
 pub record MayBegin (seat : Seat) (command : Command) : Type 0 where
-  pub idle : seat.place ≡ Idle
+  pub idle : seat.point ≡ Idle
   pub present : seat.left ≡ false
   pub served : IsServed command
   pub in_range : IsCommand command
@@ -73,11 +73,11 @@ pub record MayBegin (seat : Seat) (command : Command) : Type 0 where
 
 -- the seat with this inner call of a collect in flight
 abbrev pub after_inner_begin : Seat → Inner → Seat
-after_inner_begin seat inner = record seat { command = commands.Collect; place = inner_place inner }
+after_inner_begin seat inner = record seat { command = commands.Collect; point = inner_point inner }
 
 -- the inner call may be begun: no call is in flight, the seat hasn't left, and what it found allows the call
 pub record MayBeginInner (heap : Heap) (number : ℕ) (seat : Seat) (inner : Inner) : Type 0 where
-  pub idle : seat.place ≡ Idle
+  pub idle : seat.point ≡ Idle
   pub present : seat.left ≡ false
   pub makes : MayMake heap number seat.looks inner
 

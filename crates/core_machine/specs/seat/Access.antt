@@ -7,9 +7,9 @@ use Rattle.heap_model.specs.declared.id.Id.{Id}
 use Rattle.heap_model.specs.declared.reply.Reply.{Reply}
 use Rattle.heap_model.specs.declared.reply.Reply.TheVariants.{Length, NoField}
 use Rattle.heap_model.specs.PhasePlan.{cycle_phases, barriers, clearing}
-use Rattle.core_machine.specs.declared.place.Place.TheVariants as places
-use Rattle.core_machine.specs.declared.place.Access.{Access}
-use Rattle.core_machine.specs.declared.place.Access.TheVariants.{LoadingMeta, Walking, LoadingSpot, Indexing, Getting, Naming, LoadingOld, ShadingOld, ShadingNew, Swapping}
+use Rattle.core_machine.specs.declared.point.Point.TheVariants as points
+use Rattle.core_machine.specs.declared.point.Access.{Access}
+use Rattle.core_machine.specs.declared.point.Access.TheVariants.{LoadingMeta, Walking, LoadingSpot, Indexing, Getting, Naming, LoadingOld, ShadingOld, ShadingNew, Swapping}
 use Rattle.core_machine.specs.declared.seat.register.Register.{Register}
 use Rattle.core_machine.specs.declared.seat.register.Register.TheVariants.{Nil, Number, Object}
 use Rattle.core_machine.specs.seat.Commands.{target_of, source_of, field_of}
@@ -31,9 +31,9 @@ abbrev pub has_barrier_of : Seat → Bool
 has_barrier_of seat =
     if nat_le barriers (seat.answered % cycle_phases) then nat_lt (seat.answered % cycle_phases) clearing else false
 
--- the seat at this place of access
+-- the seat at this point of access
 abbrev pub at_access : Seat → Access → Seat
-at_access seat place = record seat { place = places.Access place }
+at_access seat point = record seat { point = points.Access point }
 
 -- the command's register has another value, and the call is over
 abbrev pub with_register_filled : Seat → Register → Seat
@@ -43,27 +43,27 @@ with_register_filled seat register = after_call (record seat { registers = slice
 abbrev pub access_start : Seat → Register → Seat
 access_start seat (Object head id) =
     at_access (record seat { reached = head }) LoadingMeta
-access_start seat Nil = record seat { place = places.Local }
-access_start seat (Number n) = record seat { place = places.Local }
+access_start seat Nil = record seat { point = points.Local }
+access_start seat (Number n) = record seat { point = points.Local }
 
 -- what is done at the field: a get loads it, a set loads it where the barrier is on, and else swaps; no other command comes there
-abbrev pub field_place_of : Seat → Command → Access
-field_place_of seat (commands.New d fields) = Getting
-field_place_of seat (commands.Array d cells) = Getting
-field_place_of seat (commands.Get d r i) = Getting
-field_place_of seat (commands.Set r i v) = if has_barrier_of seat then LoadingOld else Swapping
-field_place_of seat (commands.Num d n) = Getting
-field_place_of seat (commands.Nil d) = Getting
-field_place_of seat (commands.Copy d r) = Getting
-field_place_of seat (commands.Same a b) = Getting
-field_place_of seat (commands.Len r) = Getting
-field_place_of seat commands.Poll = Getting
-field_place_of seat commands.Collect = Getting
-field_place_of seat commands.Leave = Getting
+abbrev pub field_point_of : Seat → Command → Access
+field_point_of seat (commands.New d fields) = Getting
+field_point_of seat (commands.Array d cells) = Getting
+field_point_of seat (commands.Get d r i) = Getting
+field_point_of seat (commands.Set r i v) = if has_barrier_of seat then LoadingOld else Swapping
+field_point_of seat (commands.Num d n) = Getting
+field_point_of seat (commands.Nil d) = Getting
+field_point_of seat (commands.Copy d r) = Getting
+field_point_of seat (commands.Same a b) = Getting
+field_point_of seat (commands.Len r) = Getting
+field_point_of seat commands.Poll = Getting
+field_point_of seat commands.Collect = Getting
+field_point_of seat commands.Leave = Getting
 
 -- where the seat stands on its way: at the field, where no link leads on, and else at a link
-abbrev pub way_place_of : Seat → Access
-way_place_of seat = if seat.links == 0 then field_place_of seat seat.command else Walking
+abbrev pub way_point_of : Seat → Access
+way_point_of seat = if seat.links == 0 then field_point_of seat seat.command else Walking
 
 -- the link that was found leads to the next fragment of the way
 abbrev pub after_link : Seat → ℕ → Seat
@@ -72,7 +72,7 @@ after_link seat found = record seat { reached = link_of found; links = seat.link
 -- a fragment's first word was found: the way goes on by it, unless the field stands in this fragment
 abbrev pub after_walk : Seat → ℕ → Seat
 after_walk seat found =
-    if seat.links == 0 then at_access seat (way_place_of seat) else at_access (after_link seat found) (way_place_of (after_link seat found))
+    if seat.links == 0 then at_access seat (way_point_of seat) else at_access (after_link seat found) (way_point_of (after_link seat found))
 
 -- the reply at the meta of a command on this field, where there is no such field
 abbrev pub field_reply_of : ℕ → ℕ → Option Reply
@@ -121,7 +121,7 @@ at_payload seat found = record seat { reached = payload_in found }
 
 -- the spine word was found that names the cell's fragment: the field is reached
 abbrev pub after_index : Seat → ℕ → Seat
-after_index seat found = at_access (at_payload seat found) (field_place_of (at_payload seat found) seat.command)
+after_index seat found = at_access (at_payload seat found) (field_point_of (at_payload seat found) seat.command)
 
 -- a get's field was found: a number or nil stands in the register, a reference waits for its object's name
 abbrev pub after_get : Seat → ℕ → Option ℕ → Seat
@@ -133,13 +133,13 @@ abbrev pub after_name : Seat → ℕ → Id → Seat
 after_name seat head id = with_register_filled seat (Object head id)
 
 -- the new value is shaded where it is an object; then comes the swap
-abbrev pub new_place_of : Option ℕ → Access
-new_place_of None = Swapping
-new_place_of (Some head) = ShadingNew
+abbrev pub new_point_of : Option ℕ → Access
+new_point_of None = Swapping
+new_point_of (Some head) = ShadingNew
 
 -- the old value is dealt with
 abbrev pub after_old : Seat → Seat
-after_old seat = at_access seat (new_place_of (register_head (register_in seat.registers (source_of seat.command))))
+after_old seat = at_access seat (new_point_of (register_head (register_in seat.registers (source_of seat.command))))
 
 -- a set's old value was found: a reference is shaded
 abbrev pub after_old_load : Seat → Option ℕ → Seat

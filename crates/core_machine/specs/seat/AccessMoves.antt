@@ -1,4 +1,4 @@
--- The moves by which an object is read or written, a row per place.
+-- The moves by which an object is read or written, a row per point.
 use Rattle.std.specs.Prelude.{ℕ, ◌+◌, ◌/◌, List, [], ◌∷◌, Option, Some, None, unwrap_or}
 use Rattle.heap_model.specs.declared.heap.Heap.{Heap}
 use Rattle.heap_model.specs.declared.entry.Entry.{Entry}
@@ -8,8 +8,8 @@ use Rattle.heap_model.specs.declared.reply.Reply.{Reply}
 use Rattle.heap_model.specs.declared.reply.Reply.TheVariants.{Got, Was}
 use Rattle.heap_model.specs.graph.Growth.{set_stamp}
 use Rattle.core_machine.specs.declared.table.address.Address.TheVariants.{Word}
-use Rattle.core_machine.specs.declared.place.Access.{Access}
-use Rattle.core_machine.specs.declared.place.Access.TheVariants.{LoadingMeta, Walking, LoadingSpot, Indexing, Getting, Naming, LoadingOld, ShadingOld, ShadingNew, Swapping}
+use Rattle.core_machine.specs.declared.point.Access.{Access}
+use Rattle.core_machine.specs.declared.point.Access.TheVariants.{LoadingMeta, Walking, LoadingSpot, Indexing, Getting, Naming, LoadingOld, ShadingOld, ShadingNew, Swapping}
 use Rattle.core_machine.specs.declared.seat.register.Register.{Register}
 use Rattle.core_machine.specs.declared.step.Step.TheVariants as steps
 use Rattle.core_machine.specs.declared.step.AccessStep.TheVariants.{WalkLoad, NameLoad, GetLoad, OldLoad, Shade, Swap}
@@ -117,7 +117,7 @@ swap_move number seat =
     plain_move (steps.Access (Swap seat.reached seat.part (new_word_of number seat))) (λ found. after_swap seat)
     (λ found. reply_entries number seat (Was (stamp_of found)))
 
--- the move at each place of access
+-- the move at each point of access
 abbrev pub access_move : Heap → ℕ → Seat → Access → Move
 access_move heap number seat LoadingMeta = open_move number seat
 access_move heap number seat Walking = walk_move seat

@@ -2,7 +2,7 @@
 use Rattle.std.specs.Prelude.{ℕ}
 use Rattle.heap_model.specs.declared.command.Command.{Command}
 use Rattle.heap_model.specs.declared.command.Command.TheVariants.{New, Array, Get, Set, Num, Nil, Copy, Same, Len, Poll, Collect, Leave}
-use Rattle.core_machine.specs.declared.seat.commands.Parts.{Parts}
+use Rattle.core_machine.specs.declared.seat.commands.Operands.{Operands}
 
 -- the command makes an object
 abbrev pub MakesObject : Command → Type 0
@@ -35,45 +35,45 @@ IsServed Poll = Unit {0}
 IsServed Collect = ⊥
 IsServed Leave = Unit {0}
 
--- the parts of a command that names nothing
-abbrev pub no_parts : Parts
-no_parts = record { target = 0; object = 0; source = 0; field = 0; fields = 0; cells = 0 }
+-- the operands of a command that names nothing
+abbrev pub no_operands : Operands
+no_operands = record { target = 0; object = 0; source = 0; field = 0; fields = 0; cells = 0 }
 
 -- what a command names; 0 for what it doesn't name
-abbrev pub parts_of : Command → Parts
-parts_of (New d fields) = record no_parts { target = d; fields = fields }
-parts_of (Array d cells) = record no_parts { target = d; cells = cells }
-parts_of (Get d r i) = record no_parts { target = d; object = r; field = i }
-parts_of (Set r i v) = record no_parts { object = r; field = i; source = v }
-parts_of (Num d n) = record no_parts { target = d }
-parts_of (Nil d) = record no_parts { target = d }
-parts_of (Copy d r) = record no_parts { target = d; source = r }
-parts_of (Same a b) = no_parts
-parts_of (Len r) = record no_parts { object = r }
-parts_of Poll = no_parts
-parts_of Collect = no_parts
-parts_of Leave = no_parts
+abbrev pub operands_of : Command → Operands
+operands_of (New d fields) = record no_operands { target = d; fields = fields }
+operands_of (Array d cells) = record no_operands { target = d; cells = cells }
+operands_of (Get d r i) = record no_operands { target = d; object = r; field = i }
+operands_of (Set r i v) = record no_operands { object = r; field = i; source = v }
+operands_of (Num d n) = record no_operands { target = d }
+operands_of (Nil d) = record no_operands { target = d }
+operands_of (Copy d r) = record no_operands { target = d; source = r }
+operands_of (Same a b) = no_operands
+operands_of (Len r) = record no_operands { object = r }
+operands_of Poll = no_operands
+operands_of Collect = no_operands
+operands_of Leave = no_operands
 
 -- the register that a command's answer goes to; 0, which is never written, where it has none
 abbrev pub target_of : Command → ℕ
-target_of command = (parts_of command).target
+target_of command = (operands_of command).target
 
 -- the register with the object that a command reads or writes
 abbrev pub object_of : Command → ℕ
-object_of command = (parts_of command).object
+object_of command = (operands_of command).object
 
 -- the register whose value a command takes
 abbrev pub source_of : Command → ℕ
-source_of command = (parts_of command).source
+source_of command = (operands_of command).source
 
 -- the field that a command reads or writes
 abbrev pub field_of : Command → ℕ
-field_of command = (parts_of command).field
+field_of command = (operands_of command).field
 
 -- the fields of the record that a command makes
 abbrev pub fields_of : Command → ℕ
-fields_of command = (parts_of command).fields
+fields_of command = (operands_of command).fields
 
 -- the cells of the array that a command makes
 abbrev pub cells_of : Command → ℕ
-cells_of command = (parts_of command).cells
+cells_of command = (operands_of command).cells

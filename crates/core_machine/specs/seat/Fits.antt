@@ -5,8 +5,8 @@ use Rattle.heap_model.specs.declared.heap.Heap.{Heap}
 use Rattle.heap_model.specs.declared.command.Command.TheVariants as commands
 use Rattle.heap_model.specs.Command.{IsCommand}
 use Rattle.heap_model.specs.Limits.{group_fragments, register_count, number_limit, most_reserve}
-use Rattle.core_machine.specs.declared.place.Place.{Place}
-use Rattle.core_machine.specs.declared.place.Place.TheVariants as places
+use Rattle.core_machine.specs.declared.point.Point.{Point}
+use Rattle.core_machine.specs.declared.point.Point.TheVariants as points
 use Rattle.core_machine.specs.declared.seat.register.Register.{Register}
 use Rattle.core_machine.specs.declared.seat.register.Register.TheVariants.{Nil, Number, Object}
 use Rattle.core_machine.specs.seat.FitsAccess.{FitsAccess, IsNowhere}
@@ -19,35 +19,35 @@ pub use Rattle.core_machine.specs.seat.FitsHandshake.{IsLocal, AnswersThePhase, 
 pub use Rattle.core_machine.specs.seat.Collecting.{FitsCollecting}
 pub use Rattle.core_machine.specs.collector.FitsTurns.{FitsStage, CollectorFits}
 
--- what is true of the hand and of the command at each place
-abbrev pub FitsPlace : Heap → Seat → Place → Type 0
-FitsPlace heap seat places.Idle = IsAtRest seat
-FitsPlace heap seat (places.Making place) = FitsMaking heap seat place
-FitsPlace heap seat places.Local = IsAtRest seat × IsCommand seat.command × IsLocal seat.registers seat.command
-FitsPlace heap seat (places.Access place) = IsAtRest seat
-FitsPlace heap seat (places.Polling place) = IsAtRest seat
-FitsPlace heap seat (places.Collecting place) = IsAtRest seat × (seat.command ≡ commands.Collect) × FitsCollecting heap seat place
-FitsPlace heap seat (places.Leaving place) = IsAtRest seat × (seat.command ≡ commands.Leave) × FitsLeaving seat place
+-- what is true of the hand and of the command at each point
+abbrev pub FitsPoint : Heap → Seat → Point → Type 0
+FitsPoint heap seat points.Idle = IsAtRest seat
+FitsPoint heap seat (points.Making point) = FitsMaking heap seat point
+FitsPoint heap seat points.Local = IsAtRest seat × IsCommand seat.command × IsLocal seat.registers seat.command
+FitsPoint heap seat (points.Access point) = IsAtRest seat
+FitsPoint heap seat (points.Polling point) = IsAtRest seat
+FitsPoint heap seat (points.Collecting point) = IsAtRest seat × (seat.command ≡ commands.Collect) × FitsCollecting heap seat point
+FitsPoint heap seat (points.Leaving point) = IsAtRest seat × (seat.command ≡ commands.Leave) × FitsLeaving seat point
 
--- what has been reached and loaded at each place
-abbrev pub FitsWay : Seat → Place → Type 0
-FitsWay seat (places.Access place) = FitsAccess seat place
-FitsWay seat places.Idle = IsNowhere seat
-FitsWay seat (places.Making place) = IsNowhere seat
-FitsWay seat places.Local = IsNowhere seat
-FitsWay seat (places.Polling place) = IsNowhere seat
-FitsWay seat (places.Collecting place) = IsNowhere seat
-FitsWay seat (places.Leaving place) = IsNowhere seat
+-- what has been reached and loaded at each point
+abbrev pub FitsWay : Seat → Point → Type 0
+FitsWay seat (points.Access point) = FitsAccess seat point
+FitsWay seat points.Idle = IsNowhere seat
+FitsWay seat (points.Making point) = IsNowhere seat
+FitsWay seat points.Local = IsNowhere seat
+FitsWay seat (points.Polling point) = IsNowhere seat
+FitsWay seat (points.Collecting point) = IsNowhere seat
+FitsWay seat (points.Leaving point) = IsNowhere seat
 
--- which phase is about to be answered at each place
-abbrev pub FitsAnswer : Seat → Place → Type 0
-FitsAnswer seat (places.Polling place) = FitsPolling seat place
-FitsAnswer seat places.Idle = IsSilent seat
-FitsAnswer seat (places.Making place) = IsSilent seat
-FitsAnswer seat places.Local = IsSilent seat
-FitsAnswer seat (places.Access place) = IsSilent seat
-FitsAnswer seat (places.Collecting place) = IsSilent seat
-FitsAnswer seat (places.Leaving place) = IsSilent seat
+-- which phase is about to be answered at each point
+abbrev pub FitsAnswer : Seat → Point → Type 0
+FitsAnswer seat (points.Polling point) = FitsPolling seat point
+FitsAnswer seat points.Idle = IsSilent seat
+FitsAnswer seat (points.Making point) = IsSilent seat
+FitsAnswer seat points.Local = IsSilent seat
+FitsAnswer seat (points.Access point) = IsSilent seat
+FitsAnswer seat (points.Collecting point) = IsSilent seat
+FitsAnswer seat (points.Leaving point) = IsSilent seat
 
 -- a register's number is within the limit, and its object's first fragment is one of the heap's
 abbrev pub FitsRegister : Heap → Register → Type 0
@@ -57,7 +57,7 @@ FitsRegister heap (Object head id) = head < group_fragments * heap.groups
 
 -- no call is in flight, and there is no reserve: so it is with a seat that has left
 pub record IsGone (seat : Seat) : Type 0 where
-  pub idle : seat.place ≡ places.Idle
+  pub idle : seat.point ≡ points.Idle
   pub no_reserve : seat.reserve ≡ []
 
 -- what a seat keeps between two calls
@@ -86,7 +86,7 @@ pub record Fits (heap : Heap) (seat : Seat) : Type 0 where
   pub hand : HandFits heap seat.hand seat.body seat.spine
   pub way : WayFits heap seat.reached seat.address seat.loaded
   pub asked_small : seat.asked < 2 ^ 64
-  pub at_place : FitsPlace heap seat seat.place
-  pub way_at_place : FitsWay seat seat.place
-  pub answer_at_place : FitsAnswer seat seat.place
+  pub at_point : FitsPoint heap seat seat.point
+  pub way_at_point : FitsWay seat seat.point
+  pub answer_at_point : FitsAnswer seat seat.point
   pub gone : seat.left ≡ true → IsGone seat

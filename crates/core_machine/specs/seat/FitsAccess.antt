@@ -4,8 +4,8 @@ use Rattle.heap_words.specs.declared.spot.Spot.{Spot}
 use Rattle.heap_model.specs.declared.command.Command.{Command}
 use Rattle.heap_model.specs.declared.command.Command.TheVariants.{Get, Set, Len}
 use Rattle.heap_model.specs.Command.{IsCommand}
-use Rattle.core_machine.specs.declared.place.Access.{Access}
-use Rattle.core_machine.specs.declared.place.Access.TheVariants.{LoadingMeta, Walking, LoadingSpot, Indexing, Getting, Naming, LoadingOld, ShadingOld, ShadingNew, Swapping}
+use Rattle.core_machine.specs.declared.point.Access.{Access}
+use Rattle.core_machine.specs.declared.point.Access.TheVariants.{LoadingMeta, Walking, LoadingSpot, Indexing, Getting, Naming, LoadingOld, ShadingOld, ShadingNew, Swapping}
 use Rattle.core_machine.specs.declared.seat.register.Register.{Register}
 use Rattle.core_machine.specs.seat.Commands.{object_of, source_of, field_of}
 use Rattle.heap_words.specs.Loaded.{head_of}
@@ -109,7 +109,7 @@ SeatIsAtGet seat = WorksOnObject seat × IsGet seat.command × IsAtField seat.li
 abbrev pub SeatIsAtSet : Seat → Type 0
 SeatIsAtSet seat = WorksOnObject seat × IsSet seat.command × IsAtField seat.links seat.part
 
--- what is true of the seat's data at each place of access
+-- what is true of the seat's data at each point of access
 abbrev pub FitsAccess : Seat → Access → Type 0
 FitsAccess seat LoadingMeta = SeatIsAtHead seat
 FitsAccess seat Walking = SeatIsOnWay seat

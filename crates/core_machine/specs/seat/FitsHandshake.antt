@@ -2,10 +2,10 @@
 use Rattle.std.specs.Prelude.{◌≡◌, ◌≢◌, ℕ, ◌<◌, List, [], length, None}
 use Rattle.heap_model.specs.declared.command.Command.{Command}
 use Rattle.heap_model.specs.declared.command.Command.TheVariants as commands
-use Rattle.core_machine.specs.declared.place.Polling.{Polling}
-use Rattle.core_machine.specs.declared.place.Polling.TheVariants as polling
-use Rattle.core_machine.specs.declared.place.Leaving.{Leaving}
-use Rattle.core_machine.specs.declared.place.Leaving.TheVariants as leaving
+use Rattle.core_machine.specs.declared.point.Polling.{Polling}
+use Rattle.core_machine.specs.declared.point.Polling.TheVariants as polling
+use Rattle.core_machine.specs.declared.point.Leaving.{Leaving}
+use Rattle.core_machine.specs.declared.point.Leaving.TheVariants as leaving
 use Rattle.core_machine.specs.declared.seat.register.Register.{Register}
 use Rattle.core_machine.specs.seat.Handshake.{roots}
 use Rattle.core_machine.specs.seat.Registers.{register_in, register_head}
@@ -51,7 +51,7 @@ pub record IsNew (command : Command) (asked answered : ℕ) : Type 0 where
 abbrev pub SeatIsAnswering : Seat → Type 0
 SeatIsAnswering seat = IsNew seat.command seat.asked seat.answered
 
--- what is true of the seat's data at each place of a poll
+-- what is true of the seat's data at each point of a poll
 abbrev pub FitsPolling : Seat → Polling → Type 0
 FitsPolling seat polling.Asking = IsSilent seat × AnswersThePhase seat.command
 FitsPolling seat polling.Shading = SeatIsAnswering seat × (seat.shaded < length (roots seat))

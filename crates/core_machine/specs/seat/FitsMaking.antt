@@ -8,8 +8,8 @@ use Rattle.heap_model.specs.Command.{IsCommand}
 use Rattle.heap_model.specs.Limits.{group_fragments, name_limit}
 use Rattle.heap_model.specs.Needs.{array_words, spine_need_of}
 use Rattle.heap_model.specs.account.Space.{need_of}
-use Rattle.core_machine.specs.declared.place.Making.{Making}
-use Rattle.core_machine.specs.declared.place.Making.TheVariants.{Granting, Withdrawing, Gathering, GivingBack, Refusing, Placing, Listing, Storing, Bearing}
+use Rattle.core_machine.specs.declared.point.Making.{Making}
+use Rattle.core_machine.specs.declared.point.Making.TheVariants.{Granting, Withdrawing, Gathering, GivingBack, Refusing, Placing, Listing, Storing, Bearing}
 use Rattle.core_machine.specs.seat.Commands.{MakesObject, IsArrayCall}
 use Rattle.core_machine.specs.seat.Seat.{Seat, spine_need, no_spot}
 
@@ -111,7 +111,7 @@ pub record IsUnstored (hand body : List ℕ) (stored : ℕ) : Type 0 where
 abbrev pub HasArrayBody : Seat → Type 0
 HasArrayBody seat = HasBody seat × IsArrayCall seat.command × IsUnstored seat.hand seat.body seat.stored
 
--- what is true of the seat's data at each place of making
+-- what is true of the seat's data at each point of making
 abbrev pub FitsMaking : Heap → Seat → Making → Type 0
 FitsMaking heap seat Granting = SeatIsGranting seat
 FitsMaking heap seat Withdrawing = SeatIsWithdrawing heap seat

@@ -4,11 +4,11 @@ use Rattle.heap_model.specs.Limits.{register_count}
 use Rattle.heap_model.specs.declared.command.Command.{Command}
 use Rattle.heap_model.specs.declared.command.Command.TheVariants.{Collect}
 use Rattle.heap_model.specs.PhasePlan.{cycle_phases, marking}
-use Rattle.core_machine.specs.declared.place.Place.TheVariants as places
-use Rattle.core_machine.specs.declared.place.Polling.{Polling}
-use Rattle.core_machine.specs.declared.place.Polling.TheVariants as polling
-use Rattle.core_machine.specs.declared.place.Leaving.{Leaving}
-use Rattle.core_machine.specs.declared.place.Leaving.TheVariants as leaving
+use Rattle.core_machine.specs.declared.point.Point.TheVariants as points
+use Rattle.core_machine.specs.declared.point.Polling.{Polling}
+use Rattle.core_machine.specs.declared.point.Polling.TheVariants as polling
+use Rattle.core_machine.specs.declared.point.Leaving.{Leaving}
+use Rattle.core_machine.specs.declared.point.Leaving.TheVariants as leaving
 use Rattle.core_machine.specs.declared.seat.register.Register.TheVariants.{Nil}
 use Rattle.core_machine.specs.seat.Registers.{heads_of}
 use Rattle.core_machine.specs.seat.Seat.{Seat, call_over, after_call}
@@ -18,12 +18,12 @@ abbrev pub roots : Seat → List ℕ
 roots seat = if seat.asked % cycle_phases == marking then heads_of seat.registers else []
 
 -- the next root is shaded, or where none is left the answer is stored
-abbrev pub answer_place : Seat → Polling
-answer_place seat = if nat_lt seat.shaded (length (roots seat)) then polling.Shading else polling.Answering
+abbrev pub answer_point : Seat → Polling
+answer_point seat = if nat_lt seat.shaded (length (roots seat)) then polling.Shading else polling.Answering
 
 -- the seat at its next shade, or at its answer
 abbrev pub answer_next : Seat → Seat
-answer_next seat = record seat { place = places.Polling (answer_place seat) }
+answer_next seat = record seat { point = points.Polling (answer_point seat) }
 
 -- a call that answers the phase is over: a poll with its reply, and the answer of a collect without one
 abbrev pub polling_over : Command → Seat → Seat
@@ -43,13 +43,13 @@ abbrev pub after_answer : Seat → Seat
 after_answer seat = polling_over seat.command (record seat { answered = seat.asked })
 
 -- a reserve is given back before the seat leaves
-abbrev pub leave_place : List ℕ → Leaving
-leave_place [] = leaving.Parting
-leave_place (fragment ∷ more) = leaving.Emptying
+abbrev pub leave_point : List ℕ → Leaving
+leave_point [] = leaving.Parting
+leave_point (fragment ∷ more) = leaving.Emptying
 
 -- the reserve was given back
 abbrev pub after_emptying : Seat → Seat
-after_emptying seat = record seat { reserve = []; place = places.Leaving leaving.Parting }
+after_emptying seat = record seat { reserve = []; point = points.Leaving leaving.Parting }
 
 -- the seat has left
 abbrev pub after_leave : Seat → Seat

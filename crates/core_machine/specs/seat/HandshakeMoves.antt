@@ -5,10 +5,10 @@ use Rattle.heap_model.specs.declared.command.Command.TheVariants.{Collect}
 use Rattle.heap_model.specs.declared.entry.Entry.{Entry}
 use Rattle.heap_model.specs.declared.entry.Entry.TheVariants.{Said, GivesBack, Answers}
 use Rattle.heap_model.specs.declared.reply.Reply.TheVariants.{Phase, Done}
-use Rattle.core_machine.specs.declared.place.Polling.{Polling}
-use Rattle.core_machine.specs.declared.place.Polling.TheVariants as polling
-use Rattle.core_machine.specs.declared.place.Leaving.{Leaving}
-use Rattle.core_machine.specs.declared.place.Leaving.TheVariants as leaving
+use Rattle.core_machine.specs.declared.point.Polling.{Polling}
+use Rattle.core_machine.specs.declared.point.Polling.TheVariants as polling
+use Rattle.core_machine.specs.declared.point.Leaving.{Leaving}
+use Rattle.core_machine.specs.declared.point.Leaving.TheVariants as leaving
 use Rattle.core_machine.specs.declared.step.Step.TheVariants as steps
 use Rattle.core_machine.specs.declared.step.MakingStep.TheVariants.{GiveBack}
 use Rattle.core_machine.specs.declared.step.AccessStep.TheVariants.{Shade}
@@ -48,7 +48,7 @@ answer_move number seat =
     plain_move (steps.Handshake (AnswerStore number seat.asked)) (λ found. after_answer seat)
     (λ found. Answers number seat.asked ∷ phase_told number seat.command seat.asked)
 
--- the move at each place of a poll, and of the answer of a collect
+-- the move at each point of a poll, and of the answer of a collect
 abbrev pub polling_move : ℕ → Seat → Polling → Move
 polling_move number seat polling.Asking = poll_move number seat
 polling_move number seat polling.Shading = root_move seat
@@ -65,7 +65,7 @@ abbrev pub leave_move : ℕ → Seat → Move
 leave_move number seat =
     plain_move (steps.Handshake (LeaveStore number)) (λ found. after_leave seat) (λ found. Said number seat.command Done ∷ [])
 
--- the move at each place of a leave
+-- the move at each point of a leave
 abbrev pub leaving_move : ℕ → Seat → Leaving → Move
 leaving_move number seat leaving.Emptying = empty_move number seat
 leaving_move number seat leaving.Parting = leave_move number seat

@@ -10,12 +10,12 @@ use Rattle.heap_model.specs.declared.heap.Heap.{Heap}
 use Rattle.heap_model.specs.declared.id.Id.{Id}
 use Rattle.heap_model.specs.declared.id.Id.TheVariants.{Made}
 use Rattle.heap_model.specs.Limits.{group_fragments}
-use Rattle.core_machine.specs.declared.place.Making.{Making}
-use Rattle.core_machine.specs.declared.place.Making.TheVariants.{Withdrawing, Gathering, GivingBack, Refusing, Placing, Listing, Storing, Bearing}
-use Rattle.core_machine.specs.declared.place.Place.TheVariants as places
+use Rattle.core_machine.specs.declared.point.Making.{Making}
+use Rattle.core_machine.specs.declared.point.Making.TheVariants.{Withdrawing, Gathering, GivingBack, Refusing, Placing, Listing, Storing, Bearing}
+use Rattle.core_machine.specs.declared.point.Point.TheVariants as points
 use Rattle.core_machine.specs.declared.seat.register.Register.TheVariants.{Object}
 use Rattle.core_machine.specs.seat.Commands.{target_of, fields_of}
-use Rattle.core_machine.specs.table.Fragments.{in_group, part_in, part_out, clear_in}
+use Rattle.core_machine.specs.table.Fragments.{in_group, inside_group, outside_group, clear_in}
 use Rattle.heap_words.specs.Newborn.{record_word_of, array_word_of}
 use Rattle.core_machine.specs.seat.Seat.{Seat, need, spine_need, after_call}
 
@@ -32,9 +32,9 @@ abbrev pub fragments_gathered : Seat → List ℕ
 fragments_gathered seat = seat.reserve ++ seat.hand
 
 -- what comes once an object has its fragments: an array's spine gets its place, a record's words are stored
-abbrev pub settled_place : Command → Making
-settled_place (commands.Array d cells) = Placing
-settled_place _ = Storing
+abbrev pub settled_point : Command → Making
+settled_point (commands.Array d cells) = Placing
+settled_point _ = Storing
 
 -- enough is gathered: the new object has the first fragments, and the rest is the reserve, of the group claimed last
 abbrev pub after_gather : Heap → Seat → Seat
@@ -44,23 +44,23 @@ after_gather heap seat = record seat {
   hand = take (need seat) (fragments_gathered seat);
   body = take (need seat) (fragments_gathered seat);
   tried = 0;
-  place = places.Making (settled_place seat.command);
+  point = points.Making (settled_point seat.command);
 }
 
 -- where a refusal stands while these fragments are to be given back
-abbrev pub refusal_place : List ℕ → Making
-refusal_place [] = Refusing
-refusal_place (fragment ∷ more) = GivingBack
+abbrev pub refusal_point : List ℕ → Making
+refusal_point [] = Refusing
+refusal_point (fragment ∷ more) = GivingBack
 
 -- too little is gathered: what was claimed is given back
 abbrev pub after_shortage : Seat → Seat
-after_shortage seat = record seat { place = places.Making (refusal_place seat.hand) }
+after_shortage seat = record seat { point = points.Making (refusal_point seat.hand) }
 
 -- enough is gathered, or the next group is claimed, or, after all groups, the call is refused
 abbrev pub gather_next : Heap → Seat → Seat
 gather_next heap seat =
     if nat_le (need seat) (length (fragments_gathered seat)) then after_gather heap seat
-    else if nat_lt seat.tried heap.groups then record seat { place = places.Making Gathering }
+    else if nat_lt seat.tried heap.groups then record seat { point = points.Making Gathering }
     else after_shortage seat
 
 -- a group was claimed: what was clear in its control word is in the hand
@@ -71,7 +71,7 @@ after_claim heap seat found =
 -- the spine words were asked for: beside those granted or asked for they are too many, or the gathering begins
 abbrev pub after_budget : Heap → Seat → ℕ → Seat
 after_budget heap seat found =
-    if nat_lt heap.spine (found + spine_need seat) then record seat { used = found; place = places.Making Withdrawing } else gather_next heap seat
+    if nat_lt heap.spine (found + spine_need seat) then record seat { used = found; point = points.Making Withdrawing } else gather_next heap seat
 
 -- the group of the first fragment
 abbrev pub first_group_of : List ℕ → ℕ
@@ -96,9 +96,9 @@ run_of fragments = drop (length fragments - last_run fragments) fragments
 -- the fragments of the hand's first group were given back
 abbrev pub after_give_back : Seat → Seat
 after_give_back seat = record seat {
-  hand = part_out (first_group_of seat.hand) seat.hand;
-  given = seat.given + length (part_in (first_group_of seat.hand) seat.hand);
-  place = places.Making (refusal_place (part_out (first_group_of seat.hand) seat.hand));
+  hand = outside_group (first_group_of seat.hand) seat.hand;
+  given = seat.given + length (inside_group (first_group_of seat.hand) seat.hand);
+  point = points.Making (refusal_point (outside_group (first_group_of seat.hand) seat.hand));
 }
 
 -- the name of the seat's next object
@@ -120,23 +120,23 @@ newborn_word_of number seat k part = newborn_word seat.command (next_name number
 
 -- the spine got its place, as the word that was found tells
 abbrev pub after_placing : Seat → ℕ → Seat
-after_placing seat found = record seat { spine = spot_in found; place = places.Making Listing }
+after_placing seat found = record seat { spine = spot_in found; point = points.Making Listing }
 
 -- what comes once so many words of the spine are stored
-abbrev pub list_place : ℕ → ℕ → Making
-list_place listed words = if nat_lt listed words then Listing else Storing
+abbrev pub list_point : ℕ → ℕ → Making
+list_point listed words = if nat_lt listed words then Listing else Storing
 
 -- one more word of the spine was stored
 abbrev pub after_listing : Seat → Seat
-after_listing seat = record seat { listed = seat.listed + 1; place = places.Making (list_place (seat.listed + 1) (spine_need seat)) }
+after_listing seat = record seat { listed = seat.listed + 1; point = points.Making (list_point (seat.listed + 1) (spine_need seat)) }
 
 -- what comes once so many words of the new object are stored
-abbrev pub store_place : ℕ → List ℕ → Making
-store_place stored body = if stored == 4 * length body then Bearing else Storing
+abbrev pub store_point : ℕ → List ℕ → Making
+store_point stored body = if stored == 4 * length body then Bearing else Storing
 
 -- one more word was stored
 abbrev pub after_store : Seat → Seat
-after_store seat = record seat { stored = seat.stored + 1; place = places.Making (store_place (seat.stored + 1) seat.body) }
+after_store seat = record seat { stored = seat.stored + 1; point = points.Making (store_point (seat.stored + 1) seat.body) }
 
 -- the hand's last fragments were born, those of one group
 abbrev pub after_birth : Seat → Seat

@@ -1,4 +1,4 @@
--- The moves by which an object is made, a row per place.
+-- The moves by which an object is made, a row per point.
 use Rattle.std.specs.Prelude.{ℕ, ◌/◌, ◌%◌, ◌+◌, ◌^◌, ◌==◌, nat_lt, nat_le, Bool, false, if◌then◌else◌, List, [], ◌∷◌, length, slice_index_or}
 use Rattle.std.specs.List.{list_all}
 use Rattle.heap_model.specs.declared.command.Command.{Command}
@@ -8,14 +8,14 @@ use Rattle.heap_model.specs.declared.entry.Entry.{Entry}
 use Rattle.heap_model.specs.declared.entry.Entry.TheVariants.{Said, Takes, GivesBack}
 use Rattle.heap_model.specs.declared.reply.Reply.TheVariants as replies
 use Rattle.heap_model.specs.PhasePlan.{cycle_phases, black_births, clearing}
-use Rattle.core_machine.specs.declared.place.Making.{Making}
-use Rattle.core_machine.specs.declared.place.Making.TheVariants.{Granting, Withdrawing, Gathering, GivingBack, Refusing, Placing, Listing, Storing, Bearing}
+use Rattle.core_machine.specs.declared.point.Making.{Making}
+use Rattle.core_machine.specs.declared.point.Making.TheVariants.{Granting, Withdrawing, Gathering, GivingBack, Refusing, Placing, Listing, Storing, Bearing}
 use Rattle.core_machine.specs.declared.step.Step.TheVariants as steps
 use Rattle.core_machine.specs.declared.step.MakingStep.{MakingStep}
 use Rattle.core_machine.specs.declared.step.MakingStep.TheVariants.{Claim, GiveBack, NewbornStore, Birth, LastBirth}
 use Rattle.core_machine.specs.declared.step.Step.{Step}
 use Rattle.core_machine.specs.declared.step.SpineStep.TheVariants.{BudgetAdd, BudgetTakeBack, SpotClaim, SpineStore}
-use Rattle.core_machine.specs.table.Fragments.{in_group, part_in, clear_in, mask_of}
+use Rattle.core_machine.specs.table.Fragments.{in_group, inside_group, clear_in, mask_of}
 use Rattle.core_machine.specs.seat.Seat.{Seat, need, spine_need, after_call}
 use Rattle.core_machine.specs.seat.Looks.{Looks, seen_phase}
 use Rattle.core_machine.specs.seat.Making.{next_group_of, after_claim, after_budget, after_placing, after_listing, first_group_of, last_group_of, run_of, after_give_back, next_object_id, newborn_word_of, after_store, after_birth, after_last_birth}
@@ -45,14 +45,14 @@ claim_move heap number seat =
     (λ found. takes_some number (length (clear_in (next_group_of heap seat) found)))
 
 -- the fragments of the hand's first group
-abbrev pub first_part : Seat → List ℕ
-first_part seat = part_in (first_group_of seat.hand) seat.hand
+abbrev pub inside_first_group : Seat → List ℕ
+inside_first_group seat = inside_group (first_group_of seat.hand) seat.hand
 
 -- the fragments of the hand's first group are given back
 abbrev pub give_back_move : ℕ → Seat → Move
 give_back_move number seat =
-    plain_move (steps.Making (GiveBack (first_group_of seat.hand) (mask_of (first_part seat)))) (λ found. after_give_back seat)
-    (λ found. GivesBack number (length (first_part seat)) ∷ [])
+    plain_move (steps.Making (GiveBack (first_group_of seat.hand) (mask_of (inside_first_group seat)))) (λ found. after_give_back seat)
+    (λ found. GivesBack number (length (inside_first_group seat)) ∷ [])
 
 -- what a refusal shows: what was needed, and the reserve with what was claimed
 abbrev pub full_entry : ℕ → Seat → Entry
@@ -106,8 +106,8 @@ bears_black_of seat =
     if nat_le black_births (seat.answered % cycle_phases) then nat_lt (seat.answered % cycle_phases) clearing else false
 
 -- the hand's last fragments, as far as they are of one group
-abbrev pub last_part : Seat → List ℕ
-last_part seat = run_of seat.hand
+abbrev pub hand_run : Seat → List ℕ
+hand_run seat = run_of seat.hand
 
 -- all of the hand's fragments are of one group
 abbrev pub is_last_birth : Seat → Bool
@@ -116,7 +116,7 @@ is_last_birth seat = list_all (in_group (last_group_of seat.hand)) seat.hand
 -- the fragments of the hand's last group are born
 abbrev pub birth_move : Seat → Move
 birth_move seat =
-    plain_move (steps.Making (Birth (last_group_of seat.hand) (mask_of (last_part seat)) (bears_black_of seat)))
+    plain_move (steps.Making (Birth (last_group_of seat.hand) (mask_of (hand_run seat)) (bears_black_of seat)))
     (λ found. after_birth seat) (λ found. [])
 
 -- the entry that the object is made
@@ -126,14 +126,14 @@ made_entry number seat = Said number seat.command (replies.Made (next_object_id 
 -- the last fragments are born, and the object is made
 abbrev pub last_birth_move : ℕ → Seat → Move
 last_birth_move number seat =
-    plain_move (steps.Making (LastBirth (last_group_of seat.hand) (mask_of (last_part seat)) (bears_black_of seat)))
+    plain_move (steps.Making (LastBirth (last_group_of seat.hand) (mask_of (hand_run seat)) (bears_black_of seat)))
     (λ found. after_last_birth number seat) (λ found. made_entry number seat ∷ [])
 
 -- the birth that is due
 abbrev pub bearing_move : ℕ → Seat → Move
 bearing_move number seat = if is_last_birth seat then last_birth_move number seat else birth_move seat
 
--- the move at each place of making
+-- the move at each point of making
 abbrev pub making_move : Heap → ℕ → Seat → Making → Move
 making_move heap number seat Granting = grant_move heap number seat
 making_move heap number seat Withdrawing = withdraw_move number seat

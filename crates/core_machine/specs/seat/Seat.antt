@@ -1,4 +1,4 @@
--- What the machine keeps of a seat. The seat's number is its place among the seats, and stands nowhere in it.
+-- What the machine keeps of a seat. The seat's number is its position among the seats, and stands nowhere in it.
 use Rattle.std.specs.Prelude.{ℕ, ◌+◌, ◌<◌, Bool, true, List, [], ◌∷◌, ◌++◌}
 use Rattle.heap_words.specs.declared.spot.Spot.{Spot}
 use Rattle.heap_model.specs.declared.entry.Entry.{Entry}
@@ -9,8 +9,8 @@ use Rattle.heap_model.specs.declared.reply.Reply.{Reply}
 use Rattle.heap_model.specs.Limits.{name_limit, stamp_limit}
 use Rattle.heap_model.specs.Needs.{spine_need_of}
 use Rattle.heap_model.specs.account.Space.{need_of}
-use Rattle.core_machine.specs.declared.place.Place.{Place}
-use Rattle.core_machine.specs.declared.place.Place.TheVariants.{Idle}
+use Rattle.core_machine.specs.declared.point.Point.{Point}
+use Rattle.core_machine.specs.declared.point.Point.TheVariants.{Idle}
 use Rattle.core_machine.specs.declared.seat.register.Register.{Register}
 use Rattle.core_machine.specs.seat.Looks.{Looks, no_looks, forgotten, seen_phase}
 
@@ -45,7 +45,7 @@ pub record Seat : Type 0 where
   -- the call in flight, or the last one
   pub command : Command
   -- where the seat stands in it
-  pub place : Place
+  pub point : Point
   -- the phase that it answered last
   pub answered : ℕ
   -- how many objects it made
@@ -88,7 +88,7 @@ absent_seat = record {
   spine = no_spot;
   listed = 0;
   command = commands.Poll;
-  place = Idle;
+  point = Idle;
   answered = 0;
   made = 0;
   reached = 0;

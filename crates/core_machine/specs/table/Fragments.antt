@@ -2,7 +2,7 @@
 use Rattle.std.specs.Prelude.{ℕ, ◌+◌, ◌*◌, ◌/◌, ◌==◌, Bool, not, if◌then◌else◌, List, [], ◌∷◌, fold, filter, bit_or}
 use Rattle.std.specs.List.{range_with_len}
 pub use Rattle.heap_words.specs.Control.{is_clear}
-use Rattle.heap_words.specs.Control.{place_bit_of}
+use Rattle.heap_words.specs.Control.{fragment_bit_of}
 use Rattle.heap_model.specs.Limits.{group_fragments}
 
 -- the fragment is one of the group's sixteen
@@ -14,16 +14,16 @@ abbrev pub out_of_group : ℕ → ℕ → Bool
 out_of_group group fragment = not (in_group group fragment)
 
 -- the fragments of the list that are in the group
-abbrev pub part_in : ℕ → List ℕ → List ℕ
-part_in group fragments = filter (in_group group) fragments
+abbrev pub inside_group : ℕ → List ℕ → List ℕ
+inside_group group fragments = filter (in_group group) fragments
 
 -- the fragments of the list that are in other groups
-abbrev pub part_out : ℕ → List ℕ → List ℕ
-part_out group fragments = filter (out_of_group group) fragments
+abbrev pub outside_group : ℕ → List ℕ → List ℕ
+outside_group group fragments = filter (out_of_group group) fragments
 
--- the bits of these fragments, each by its place in its group
+-- the bits of these fragments, each by its position in its group
 unfoldable pub mask_of : List ℕ → ℕ
-mask_of fragments = fold (λ bits fragment. bit_or bits (place_bit_of fragment)) 0 fragments
+mask_of fragments = fold (λ bits fragment. bit_or bits (fragment_bit_of fragment)) 0 fragments
 
 -- of the first fragments of a group those whose taken bit isn't set, the lowest first
 unfoldable pub clear_among : ℕ → ℕ → ℕ → List ℕ

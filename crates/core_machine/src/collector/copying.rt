@@ -6,7 +6,7 @@ ghost use Rattle.core_machine.specs.collector.TurnMove.{Collector};
 ghost use Rattle.heap_words.specs.Loaded.{array_length_of};
 ghost use Rattle.heap_model.specs.Heap.{IsHeap};
 ghost use Rattle.heap_model.specs.Limits.{group_fragments, most_groups};
-ghost use Rattle.heap_words.specs.Control.{next_place_of};
+ghost use Rattle.heap_words.specs.Control.{next_position_of};
 
 use crate::collector::stage::{ArrayAt, Copying, SpineCopy, Stage, Visit};
 use crate::step::{AccessStep, CopyingStep, SpineStep, Step, TurningStep};
@@ -14,7 +14,7 @@ use crate::table::decode::{array_words, id_in};
 use heap_model::Heap;
 use heap_model::limits::GROUP_FRAGMENTS;
 use heap_model::phase_plan::CYCLE_PHASES;
-use heap_words::{Spot, array_length, marked_bits, next_place};
+use heap_words::{Spot, array_length, marked_bits, next_position};
 
 /// The half that the flip of the phase's cycle leaves.
 fn left_half(phase: u64) -> u8
@@ -43,18 +43,18 @@ fn next_group(heap: &Heap, group: u16) -> Stage
     }
 }
 
-/// The first marked fragment from this place on is looked at.
+/// The first marked fragment from this position on is looked at.
 fn visit_from(heap: &Heap, group: u16, marked: u16, from: u8) -> Stage
     requires { group < heap.now.groups }
-    ensures { result ≡ after_seen heap.now group marked (next_place_of marked from) }
+    ensures { result ≡ after_seen heap.now group marked (next_position_of marked from) }
 {
-    let Some(place) = next_place(marked, from) else {
+    let Some(position) = next_position(marked, from) else {
         return next_group(heap, group);
     };
     Stage::Copying(Copying::Inspecting(Visit {
         group,
         marked,
-        place,
+        position,
     }))
 }
 
@@ -70,10 +70,10 @@ impl Visit {
     /// The fragment at which it stands.
     fn fragment(&self) -> u16
         requires group { self.now.group < most_groups }
-        requires place { self.now.place < group_fragments }
+        requires position { self.now.position < group_fragments }
         ensures { result ≡ visited self.now }
     {
-        GROUP_FRAGMENTS * self.group + u16::from(self.place)
+        GROUP_FRAGMENTS * self.group + u16::from(self.position)
     }
 
     /// Its fragment is seen to: the next one comes.
@@ -81,7 +81,7 @@ impl Visit {
         requires { FitsVisit heap.now self.now }
         ensures { result ≡ visit_on heap.now self.now }
     {
-        visit_from(heap, self.group, self.marked, self.place + 1)
+        visit_from(heap, self.group, self.marked, self.position + 1)
     }
 
     /// The first word of its fragment was found: where that is an array's meta its name comes next.

@@ -40,8 +40,8 @@ impl<L: CountsEntries> CollectorParty<L> {
             }
             Stage::Copying(stage) => return stage.due(heap),
             Stage::Sweeping { group } => TurningStep::GroupLoad { group },
-            Stage::Examining { group, place, .. } => TurningStep::MetaLoad {
-                fragment: GROUP_FRAGMENTS * group + u16::from(place),
+            Stage::Examining { group, position, .. } => TurningStep::MetaLoad {
+                fragment: GROUP_FRAGMENTS * group + u16::from(position),
             },
             Stage::Freeing { group, dead, .. } => TurningStep::Free { group, bits: dead },
             Stage::Returning { words, .. } => {

@@ -51,11 +51,11 @@ pub fn pass_on(heap: &Heap, group: u16, found: bool, word: u64) -> Stage
     requires group { group < heap.now.groups }
     ensures { result ≡ after_pass heap.now group found (lowest_grey_of word) }
 {
-    let Some(place) = lowest_grey(word) else {
+    let Some(position) = lowest_grey(word) else {
         return next_group(heap, group, found);
     };
     Stage::Scanning(Scan {
-        fragment: GROUP_FRAGMENTS * group + place,
+        fragment: GROUP_FRAGMENTS * group + position,
         part: 0,
         steps: 0,
     })

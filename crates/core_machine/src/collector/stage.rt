@@ -30,10 +30,10 @@ pub struct SpineScan {
 pub struct Visit {
     /// The group.
     pub group: u16,
-    /// Its marked fragments, each by its place.
+    /// Its marked fragments, each by its position.
     pub marked: u16,
-    /// The place whose turn it is; the marked ones before it are seen to.
-    pub place: u8,
+    /// The position whose turn it is; the marked ones before it are seen to.
+    pub position: u8,
 }
 
 /// An array that a visit has found.
@@ -125,7 +125,7 @@ pub enum Stage {
     Examining {
         group: u16,
         dead: u16,
-        place: u8,
+        position: u8,
         words: u32,
     },
     /// The group's dead fragments are freed, among them arrays with so many spine words.

@@ -1,11 +1,11 @@
 ghost use Rattle.std.specs.Prelude.{◌≡◌, ◌+◌, ◌*◌, ◌<◌, ◌≤◌, ◌^◌};
 ghost use Rattle.heap_model.specs.Heap.{IsHeap};
 ghost use Rattle.heap_model.specs.Limits.{group_fragments};
-ghost use Rattle.core_machine.specs.collector.Sweeping.{dead_bits_of, next_place_of, taken_count_of, after_swept, after_examined, after_freed, after_cleared};
+ghost use Rattle.core_machine.specs.collector.Sweeping.{dead_bits_of, next_position_of, taken_count_of, after_swept, after_examined, after_freed, after_cleared};
 
 use crate::collector::stage::Stage;
 use heap_model::Heap;
-use heap_words::{dead_bits, next_place, taken_count};
+use heap_words::{dead_bits, next_position, taken_count};
 
 /// The group is swept: the next group's turn comes, and behind the last one the phase is done.
 pub fn sweep_on(heap: &Heap, group: u16) -> Stage
@@ -20,17 +20,17 @@ pub fn sweep_on(heap: &Heap, group: u16) -> Stage
     }
 }
 
-/// The first dead fragment from this place on is looked at; where there is none the dead ones are freed. Arrays among
+/// The first dead fragment from this position on is looked at; where there is none the dead ones are freed. Arrays among
 /// those before it had so many spine words.
 pub fn examine_from(heap: &Heap, group: u16, dead: u16, words: u32, from: u8) -> Stage
     requires { group < heap.now.groups }
-    ensures { result ≡ after_examined heap.now group dead words (next_place_of dead from) }
+    ensures { result ≡ after_examined heap.now group dead words (next_position_of dead from) }
 {
-    if let Some(place) = next_place(dead, from) {
+    if let Some(position) = next_position(dead, from) {
         return Stage::Examining {
             group,
             dead,
-            place,
+            position,
             words,
         };
     }
@@ -54,7 +54,7 @@ pub fn freed(heap: &Heap, group: u16, words: u32) -> Stage
 /// The group has this control word: its dead fragments are looked at first.
 pub fn swept(heap: &Heap, group: u16, word: u64) -> Stage
     requires { group < heap.now.groups }
-    ensures { result ≡ after_examined heap.now group (dead_bits_of word) 0 (next_place_of (dead_bits_of word) 0) }
+    ensures { result ≡ after_examined heap.now group (dead_bits_of word) 0 (next_position_of (dead_bits_of word) 0) }
 {
     examine_from(heap, group, dead_bits(word), 0, 0)
 }

@@ -194,11 +194,11 @@ impl<L: CountsEntries> CollectorParty<L> {
             Stage::Examining {
                 group,
                 dead,
-                place,
+                position,
                 words,
             } => {
                 let words = words + u32::from(spine_words(found));
-                self.stage = examine_from(heap, group, dead, words, place + 1);
+                self.stage = examine_from(heap, group, dead, words, position + 1);
             }
             Stage::Freeing { group, dead, words } => self.free(heap, group, dead, words),
             Stage::Returning { group, words } => self.return_words(heap, group, words),

@@ -122,9 +122,9 @@ fn store_board(words: &mut [u64], heap: &Heap)
         fields: heap.board_fields(),
         fragments: &FIRST_GROUP[..fragments as usize],
     };
-    for place in 0..4 * fragments {
-        let fragment = place / 4;
-        let part = (place % 4) as u8;
+    for position in 0..4 * fragments {
+        let fragment = position / 4;
+        let part = (position % 4) as u8;
         let word = board.word(fragment as usize, part);
         store(words, heap, Address::Word { fragment, part }, word);
     }

@@ -3,16 +3,16 @@ ghost use Rattle.heap_model.specs.Limits.{register_count, most_seats, stamp_limi
 ghost use Rattle.core_machine.specs.seat.Seat.{with_entries};
 ghost use Rattle.core_machine.specs.seat.Commands.{target_of, source_of};
 ghost use Rattle.heap_words.specs.Loaded.{head_of};
-ghost use Rattle.core_machine.specs.seat.Access.{after_get, after_old, new_place_of};
+ghost use Rattle.core_machine.specs.seat.Access.{after_get, after_old, new_point_of};
 ghost use Rattle.core_machine.specs.seat.AccessMoves.{got_adds, name_move, old_move, swap_move, loaded_head_of, new_register_of, new_word_of};
 ghost use Rattle.core_machine.specs.seat.Registers.{register_head, IsSmall};
 ghost use Rattle.core_machine.specs.Moves.{seat_after};
 ghost use Rattle.core_machine.specs.machine.Value.{KeepsRoom};
 
 use crate::log::Entries;
-use crate::place::{Access, Place};
+use crate::point::{Access, Point};
 use crate::seat::SeatParty;
-use crate::seat::commands::Parts;
+use crate::seat::commands::Operands;
 use crate::seat::register::Register;
 use crate::table::decode::{id_in, plain_in};
 use heap_model::limits::STAMP_LIMIT;
@@ -20,8 +20,8 @@ use heap_model::{Reply, Value};
 use heap_words::{head_in, stamp_in};
 
 /// The new value is shaded where it is an object; then comes the swap.
-fn new_place(register: &Register) -> Access
-    ensures { result ≡ new_place_of (register_head register.now) }
+fn new_point(register: &Register) -> Access
+    ensures { result ≡ new_point_of (register_head register.now) }
 {
     match register {
         Register::Object { .. } => Access::ShadingNew,
@@ -46,7 +46,7 @@ impl<L: Entries> SeatParty<L> {
         requires { source_of self.now.seat.command < register_count }
         ensures { result ≡ new_register_of self.now.seat }
     {
-        self.registers[Parts::of(&self.command).source as usize]
+        self.registers[Operands::of(&self.command).source as usize]
     }
 
     /// The new word of the field.
@@ -68,7 +68,7 @@ impl<L: Entries> SeatParty<L> {
         ensures spare { self.new.spare ≡ self.old.spare }
         ensures forgotten { self.new.forgotten ≡ self.old.forgotten }
     {
-        self.registers[Parts::of(&self.command).target as usize] = register;
+        self.registers[Operands::of(&self.command).target as usize] = register;
     }
 
     /// Learns the field of a get.
@@ -81,7 +81,7 @@ impl<L: Entries> SeatParty<L> {
     {
         if head_in(found).is_some() {
             self.loaded = found;
-            self.place = Place::Access(Access::Naming);
+            self.point = Point::Access(Access::Naming);
             return;
         }
         let register = plain_in(found);
@@ -126,7 +126,7 @@ impl<L: Entries> SeatParty<L> {
     {
         self.loaded = found;
         if head_in(found).is_some() {
-            self.place = Place::Access(Access::ShadingOld);
+            self.point = Point::Access(Access::ShadingOld);
         } else {
             self.finish_old();
         }
@@ -140,7 +140,7 @@ impl<L: Entries> SeatParty<L> {
         ensures forgotten { self.new.forgotten ≡ self.old.forgotten }
     {
         let register = self.new_register();
-        self.place = Place::Access(new_place(&register));
+        self.point = Point::Access(new_point(&register));
     }
 
     /// Learns what the swap took out of the field.

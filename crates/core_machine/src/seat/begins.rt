@@ -6,10 +6,10 @@ ghost use Rattle.core_machine.specs.seat.Fits.{Fits};
 ghost use Rattle.core_machine.specs.machine.Machine.{MayBegin, MayBeginInner, after_begin, after_inner_begin};
 
 use crate::log::Entries;
-use crate::place::{Making, Place, Polling};
+use crate::point::{Making, Point, Polling};
 use crate::seat::SeatParty;
-use crate::seat::collecting::first_place;
-use crate::seat::commands::Parts;
+use crate::seat::collecting::first_point;
+use crate::seat::commands::Operands;
 use heap_model::limits::STAMP_LIMIT;
 use heap_model::{Command, Heap, Inner};
 
@@ -42,7 +42,7 @@ impl<L: Entries> SeatParty<L> {
     pub fn may_begin(&self, command: &Command) -> bool
         ensures { IsTrue result ↔ MayBegin self.now.seat command.now }
     {
-        let Place::Idle = self.place else {
+        let Point::Idle = self.point else {
             return false;
         };
         !self.left && is_served(command) && command.is_in_range() && self.has_number(command)
@@ -72,16 +72,16 @@ impl<L: Entries> SeatParty<L> {
         self.command = command;
         match command {
             Command::New { .. } => self.go_on(heap),
-            Command::Array { .. } => self.place = Place::Making(Making::Granting),
+            Command::Array { .. } => self.point = Point::Making(Making::Granting),
             Command::Get { .. } | Command::Set { .. } | Command::Len { .. } => {
-                self.open(Parts::of(&command).object);
+                self.open(Operands::of(&command).object);
             }
-            Command::Poll => self.place = Place::Polling(Polling::Asking),
+            Command::Poll => self.point = Point::Polling(Polling::Asking),
             Command::Leave => self.go(),
             Command::Num { .. }
             | Command::Nil { .. }
             | Command::Copy { .. }
-            | Command::Same { .. } => self.place = Place::Local,
+            | Command::Same { .. } => self.point = Point::Local,
             Command::Collect => unreachable!(),
         }
     }
@@ -90,7 +90,7 @@ impl<L: Entries> SeatParty<L> {
     pub fn may_begin_inner(&self, heap: &Heap, number: u8, inner: &Inner) -> bool
         ensures { IsTrue result ↔ MayBeginInner heap.now number self.now.seat inner.now }
     {
-        let Place::Idle = self.place else {
+        let Point::Idle = self.point else {
             return false;
         };
         !self.left && self.looks.may_make(heap, number, inner)
@@ -103,6 +103,6 @@ impl<L: Entries> SeatParty<L> {
         ensures forgotten { self.new.forgotten ≡ self.old.forgotten }
     {
         self.command = Command::Collect;
-        self.place = first_place(inner);
+        self.point = first_point(inner);
     }
 }

@@ -9,9 +9,9 @@ ghost use Rattle.core_machine.specs.table.Layout.{FitsSpot};
 ghost use Rattle.core_machine.specs.machine.Value.{KeepsRoom};
 
 use crate::log::Entries;
-use crate::place::{Making, Place};
+use crate::point::{Making, Point};
 use crate::seat::SeatParty;
-use crate::seat::commands::Parts;
+use crate::seat::commands::Operands;
 use crate::seat::register::Register;
 use crate::step::MakingStep;
 use crate::table::fragments::{all_in, last_group, last_run, mask};
@@ -34,7 +34,7 @@ impl<L: Entries> SeatParty<L> {
             count: self.made,
         };
         let Command::Array { cells, .. } = self.command else {
-            let fields = Parts::of(&self.command).fields;
+            let fields = Operands::of(&self.command).fields;
             let fragments = self.body();
             let record = Newborn {
                 name,
@@ -78,7 +78,7 @@ impl<L: Entries> SeatParty<L> {
     {
         self.stored += 1;
         let done = self.stored as usize == 4 * self.body().len();
-        self.place = Place::Making(if done {
+        self.point = Point::Making(if done {
             Making::Bearing
         } else {
             Making::Storing
@@ -144,7 +144,7 @@ impl<L: Entries> SeatParty<L> {
             count: self.made,
         };
         let head = self.body()[0];
-        self.registers[Parts::of(&self.command).target as usize] = Register::Object { head, id };
+        self.registers[Operands::of(&self.command).target as usize] = Register::Object { head, id };
         self.made += 1;
         self.reply(number, Reply::Made(id));
     }

@@ -1,23 +1,23 @@
 ghost use Rattle.std.specs.Prelude.{◌≡◌, ◌<◌};
-ghost use Rattle.core_machine.specs.seat.Collecting.{look_move, asking_move, comparing_move, note_move, collecting_move, inner_place};
+ghost use Rattle.core_machine.specs.seat.Collecting.{look_move, asking_move, comparing_move, note_move, collecting_move, inner_point};
 ghost use Rattle.core_machine.specs.seat.Looks.{noted_reply};
 ghost use Rattle.core_machine.specs.Moves.{seat_after};
 ghost use Rattle.core_machine.specs.machine.Value.{KeepsRoom};
 
 use crate::log::Entries;
-use crate::place::{Collecting, Place, Polling};
+use crate::point::{Collecting, Point, Polling};
 use crate::seat::SeatParty;
 use heap_model::{CollectReply, Inner, Reply};
 
 /// Where an inner call begins.
-pub fn first_place(inner: Inner) -> Place
-    ensures { result ≡ inner_place inner }
+pub fn first_point(inner: Inner) -> Point
+    ensures { result ≡ inner_point inner }
 {
     match inner {
-        Inner::Look => Place::Collecting(Collecting::Looking),
-        Inner::Answer => Place::Polling(Polling::Asking),
-        Inner::Behind { seat } => Place::Collecting(Collecting::Asking { other: seat }),
-        Inner::Note(reply) => Place::Collecting(Collecting::Noting(reply)),
+        Inner::Look => Point::Collecting(Collecting::Looking),
+        Inner::Answer => Point::Polling(Polling::Asking),
+        Inner::Behind { seat } => Point::Collecting(Collecting::Asking { other: seat }),
+        Inner::Note(reply) => Point::Collecting(Collecting::Noting(reply)),
     }
 }
 
@@ -49,7 +49,7 @@ impl<L: Entries> SeatParty<L> {
         ensures forgotten { self.new.forgotten ≡ self.old.forgotten }
     {
         self.looks.see(found);
-        self.place = Place::Collecting(Collecting::Comparing {
+        self.point = Point::Collecting(Collecting::Comparing {
             other,
             phase: found,
         });
@@ -77,13 +77,13 @@ impl<L: Entries> SeatParty<L> {
     }
 
     /// Learns what a step of an inner call of a collect found.
-    pub(crate) fn learn_collecting(&mut self, number: u8, place: Collecting, found: u64)
+    pub(crate) fn learn_collecting(&mut self, number: u8, point: Collecting, found: u64)
         requires { 0 < self.old.spare }
-        ensures seat { self.new.seat ≡ seat_after (collecting_move number self.old.seat place) found }
+        ensures seat { self.new.seat ≡ seat_after (collecting_move number self.old.seat point) found }
         ensures spare { KeepsRoom self.old self.new }
         ensures forgotten { self.new.forgotten ≡ self.old.forgotten }
     {
-        match place {
+        match point {
             Collecting::Looking => self.learn_look(found),
             Collecting::Asking { other } => self.learn_asking(other, found),
             Collecting::Comparing { other, phase } => self.learn_comparing(other, phase, found),

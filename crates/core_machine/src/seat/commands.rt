@@ -1,11 +1,11 @@
 ghost use Rattle.std.specs.Prelude.{◌≡◌};
-ghost use Rattle.core_machine.specs.seat.Commands.{parts_of};
+ghost use Rattle.core_machine.specs.seat.Commands.{operands_of};
 
 use heap_model::Command;
 
 /// What a command names; 0 for what it doesn't name.
 #[derive(Clone, Copy)]
-pub struct Parts {
+pub struct Operands {
     /// The register that the answer goes to.
     pub target: u8,
     /// The register with the object that is read or written.
@@ -20,9 +20,9 @@ pub struct Parts {
     pub cells: u16,
 }
 
-impl Parts {
+impl Operands {
     /// What a command names that names nothing.
-    const NONE: Parts = Parts {
+    const NONE: Operands = Operands {
         target: 0,
         object: 0,
         source: 0,
@@ -31,41 +31,41 @@ impl Parts {
         cells: 0,
     };
 
-    /// The parts of this command.
-    pub fn of(command: &Command) -> Parts
-        ensures { result ≡ parts_of command.now }
+    /// The operands of this command.
+    pub fn of(command: &Command) -> Operands
+        ensures { result ≡ operands_of command.now }
     {
-        let none = Parts::NONE;
+        let none = Operands::NONE;
         match *command {
-            Command::New { d, fields } => Parts {
+            Command::New { d, fields } => Operands {
                 target: d,
                 fields,
                 ..none
             },
-            Command::Array { d, cells } => Parts {
+            Command::Array { d, cells } => Operands {
                 target: d,
                 cells,
                 ..none
             },
-            Command::Num { d, .. } | Command::Nil { d } => Parts { target: d, ..none },
-            Command::Get { d, r, i } => Parts {
+            Command::Num { d, .. } | Command::Nil { d } => Operands { target: d, ..none },
+            Command::Get { d, r, i } => Operands {
                 target: d,
                 object: r,
                 field: i,
                 ..none
             },
-            Command::Set { r, i, v } => Parts {
+            Command::Set { r, i, v } => Operands {
                 object: r,
                 source: v,
                 field: i,
                 ..none
             },
-            Command::Copy { d, r } => Parts {
+            Command::Copy { d, r } => Operands {
                 target: d,
                 source: r,
                 ..none
             },
-            Command::Len { r } => Parts { object: r, ..none },
+            Command::Len { r } => Operands { object: r, ..none },
             Command::Same { .. } | Command::Poll | Command::Collect | Command::Leave => none,
         }
     }

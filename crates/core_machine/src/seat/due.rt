@@ -5,7 +5,7 @@ ghost use Rattle.core_machine.specs.seat.FitsAccess.{FitsAccess};
 ghost use Rattle.core_machine.specs.Moves.{due_step, making_move, access_move, polling_move, leaving_move, collecting_move};
 
 use crate::log::Entries;
-use crate::place::{Access, Collecting, Leaving, Making, Place, Polling};
+use crate::point::{Access, Collecting, Leaving, Making, Point, Polling};
 use crate::seat::SeatParty;
 use crate::step::{AccessStep, HandshakeStep, MakingStep, SpineStep, Step, TurningStep};
 use heap_model::Heap;
@@ -13,14 +13,14 @@ use heap_model::Heap;
 impl<L: Entries> SeatParty<L> {
     /// The step of making that is due.
     #[inline(always)]
-    fn due_making(&self, heap: &Heap, number: u8, place: Making) -> Step
+    fn due_making(&self, heap: &Heap, number: u8, point: Making) -> Step
         requires limits { IsHeap heap.now }
         requires number { number < heap.now.seats }
         requires fits { Fits heap.now self.now.seat }
-        requires at_place { FitsMaking heap.now self.now.seat place }
-        ensures { result ≡ (making_move heap.now number self.now.seat place).step }
+        requires at_point { FitsMaking heap.now self.now.seat point }
+        ensures { result ≡ (making_move heap.now number self.now.seat point).step }
     {
-        match place {
+        match point {
             Making::Granting => Step::Spine(SpineStep::BudgetAdd {
                 words: self.spine_need(),
             }),
@@ -41,15 +41,15 @@ impl<L: Entries> SeatParty<L> {
 
     /// The step of access that is due.
     #[inline(always)]
-    fn due_access(&self, heap: &Heap, number: u8, place: Access) -> Step
+    fn due_access(&self, heap: &Heap, number: u8, point: Access) -> Step
         requires limits { IsHeap heap.now }
         requires number { number < heap.now.seats }
         requires fits { Fits heap.now self.now.seat }
-        requires at_place { FitsAccess self.now.seat place }
-        ensures { result ≡ (access_move heap.now number self.now.seat place).step }
+        requires at_point { FitsAccess self.now.seat point }
+        ensures { result ≡ (access_move heap.now number self.now.seat point).step }
     {
         let fragment = self.reached;
-        let step = match place {
+        let step = match point {
             Access::LoadingMeta | Access::Walking => AccessStep::WalkLoad { fragment },
             Access::LoadingSpot => {
                 return Step::Spine(SpineStep::AddressLoad { sentinel: fragment });
@@ -82,11 +82,11 @@ impl<L: Entries> SeatParty<L> {
     }
 
     /// The step of answering the phase that is due.
-    fn due_polling(&self, number: u8, place: Polling) -> Step
-        requires at_place { FitsPolling self.now.seat place }
-        ensures { result ≡ (polling_move number self.now.seat place).step }
+    fn due_polling(&self, number: u8, point: Polling) -> Step
+        requires at_point { FitsPolling self.now.seat point }
+        ensures { result ≡ (polling_move number self.now.seat point).step }
     {
-        match place {
+        match point {
             Polling::Asking => Step::PollLoad,
             Polling::Shading => Step::Access(AccessStep::Shade {
                 fragment: self.next_root(),
@@ -99,10 +99,10 @@ impl<L: Entries> SeatParty<L> {
     }
 
     /// The step of an inner call of a collect that is due.
-    fn due_collecting(&self, number: u8, place: Collecting) -> Step
-        ensures { result ≡ (collecting_move number self.now.seat place).step }
+    fn due_collecting(&self, number: u8, point: Collecting) -> Step
+        ensures { result ≡ (collecting_move number self.now.seat point).step }
     {
-        match place {
+        match point {
             Collecting::Looking | Collecting::Asking { .. } | Collecting::Noting(_) => {
                 Step::PollLoad
             }
@@ -113,10 +113,10 @@ impl<L: Entries> SeatParty<L> {
     }
 
     /// The step of leaving that is due.
-    fn due_leaving(&self, number: u8, place: Leaving) -> Step
-        ensures { result ≡ (leaving_move number self.now.seat place).step }
+    fn due_leaving(&self, number: u8, point: Leaving) -> Step
+        ensures { result ≡ (leaving_move number self.now.seat point).step }
     {
-        match place {
+        match point {
             Leaving::Emptying => Step::Making(self.last_give_back()),
             Leaving::Parting => Step::Handshake(HandshakeStep::LeaveStore { seat: number }),
         }
@@ -130,14 +130,14 @@ impl<L: Entries> SeatParty<L> {
         requires fits { Fits heap.now self.now.seat }
         ensures { result ≡ due_step heap.now number self.now.seat }
     {
-        match self.place {
-            Place::Idle => None,
-            Place::Making(place) => Some(self.due_making(heap, number, place)),
-            Place::Local => Some(Step::PollLoad),
-            Place::Access(place) => Some(self.due_access(heap, number, place)),
-            Place::Polling(place) => Some(self.due_polling(number, place)),
-            Place::Collecting(place) => Some(self.due_collecting(number, place)),
-            Place::Leaving(place) => Some(self.due_leaving(number, place)),
+        match self.point {
+            Point::Idle => None,
+            Point::Making(point) => Some(self.due_making(heap, number, point)),
+            Point::Local => Some(Step::PollLoad),
+            Point::Access(point) => Some(self.due_access(heap, number, point)),
+            Point::Polling(point) => Some(self.due_polling(number, point)),
+            Point::Collecting(point) => Some(self.due_collecting(number, point)),
+            Point::Leaving(point) => Some(self.due_leaving(number, point)),
         }
     }
 }

@@ -4,12 +4,12 @@ ghost use Rattle.heap_model.specs.Limits.{most_reserve};
 ghost use Rattle.core_machine.specs.declared.step.Step.TheVariants.{Making as Makes};
 ghost use Rattle.core_machine.specs.seat.Fits.{SeatIsGathering, SeatIsRefusing};
 ghost use Rattle.core_machine.specs.seat.Seat.{need};
-ghost use Rattle.core_machine.specs.seat.Making.{next_group_of, last_claimed, gather_next, after_gather, refusal_place, settled_place};
-ghost use Rattle.core_machine.specs.Moves.{claim_move, give_back_move, refusal_looks, refusal_move, seat_after, first_part};
+ghost use Rattle.core_machine.specs.seat.Making.{next_group_of, last_claimed, gather_next, after_gather, refusal_point, settled_point};
+ghost use Rattle.core_machine.specs.Moves.{claim_move, give_back_move, refusal_looks, refusal_move, seat_after, inside_first_group};
 ghost use Rattle.core_machine.specs.machine.Value.{KeepsRoom};
 
 use crate::log::Entries;
-use crate::place::{Making, Place};
+use crate::point::{Making, Point};
 use crate::seat::SeatParty;
 use crate::step::MakingStep;
 use crate::table::fragments::{count_in, first_group, mask_in};
@@ -17,7 +17,7 @@ use heap_model::{Command, Entry, Heap, Reply};
 
 /// Where a refusal stands while these fragments are to be given back.
 fn returning(hand: &[u16]) -> Making
-    ensures { result ≡ refusal_place hand.now }
+    ensures { result ≡ refusal_point hand.now }
 {
     if hand.is_empty() {
         Making::Refusing
@@ -28,7 +28,7 @@ fn returning(hand: &[u16]) -> Making
 
 /// What comes once an object has its fragments.
 fn settled(command: &Command) -> Making
-    ensures { result ≡ settled_place command.now }
+    ensures { result ≡ settled_point command.now }
 {
     match command {
         Command::Array { .. } => Making::Placing,
@@ -64,7 +64,7 @@ impl<L: Entries> SeatParty<L> {
             self.cursor = (self.cursor + self.tried - 1) % heap.groups;
         }
         self.tried = 0;
-        self.place = Place::Making(settled(&self.command));
+        self.point = Point::Making(settled(&self.command));
     }
 
     /// Enough is gathered, or the next group is claimed, or, after all groups, the call is refused.
@@ -81,9 +81,9 @@ impl<L: Entries> SeatParty<L> {
         if self.reserve.len() + self.hand().len() >= self.command.need() as usize {
             self.settle(heap);
         } else if self.tried < heap.groups {
-            self.place = Place::Making(Making::Gathering);
+            self.point = Point::Making(Making::Gathering);
         } else {
-            self.place = Place::Making(returning(self.hand()));
+            self.point = Point::Making(returning(self.hand()));
         }
     }
 
@@ -134,7 +134,7 @@ impl<L: Entries> SeatParty<L> {
         let count = count_in(self.hand(), group);
         self.hands.leave_out(group);
         self.given += count as u16;
-        self.place = Place::Making(returning(self.hand()));
+        self.point = Point::Making(returning(self.hand()));
         self.note(Entry::GivesBack {
             seat: number,
             count: count as u32,

@@ -1,6 +1,6 @@
 ghost use Rattle.std.specs.Prelude.{◌≡◌, ◌+◌, ◌-◌, ◌*◌, ◌<◌, ◌≤◌, ◌++◌, [], length, take, drop};
 ghost use Rattle.heap_model.specs.Limits.{group_fragments, most_groups, most_reserve};
-ghost use Rattle.core_machine.specs.table.Fragments.{part_out, clear_in};
+ghost use Rattle.core_machine.specs.table.Fragments.{outside_group, clear_in};
 
 use crate::table::fragments::{Hand, MOST_HELD, Reserve, add_clear, leave_out, put_before, refill};
 use std::marker::Model;
@@ -79,7 +79,7 @@ impl Hands {
     /// Leaves out the fragments of the group.
     pub fn leave_out(&mut self, group: u16)
         requires { self.old.body ≡ [] }
-        ensures hand { self.new.hand ≡ part_out group self.old.hand }
+        ensures hand { self.new.hand ≡ outside_group group self.old.hand }
         ensures body { self.new.body ≡ [] }
     {
         self.unborn = None;

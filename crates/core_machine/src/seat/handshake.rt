@@ -1,16 +1,16 @@
 ghost use Rattle.std.specs.Prelude.{◌≡◌, ◌<◌, ◌≤◌, length, slice_index_or};
 ghost use Rattle.heap_model.specs.Limits.{register_count, most_reserve};
 ghost use Rattle.core_machine.specs.declared.step.Step.TheVariants.{Making as Makes};
-ghost use Rattle.core_machine.specs.declared.place.Place.TheVariants.{Leaving as Leaves};
+ghost use Rattle.core_machine.specs.declared.point.Point.TheVariants.{Leaving as Leaves};
 ghost use Rattle.core_machine.specs.seat.Registers.{heads_of};
-ghost use Rattle.core_machine.specs.seat.Handshake.{roots, answer_next, after_root_shade, leave_place, polling_over};
+ghost use Rattle.core_machine.specs.seat.Handshake.{roots, answer_next, after_root_shade, leave_point, polling_over};
 ghost use Rattle.core_machine.specs.seat.HandshakeMoves.{phase_told, poll_move, answer_move, empty_move, leave_move};
 ghost use Rattle.core_machine.specs.seat.Seat.{with_entries};
 ghost use Rattle.core_machine.specs.Moves.{seat_after};
 ghost use Rattle.core_machine.specs.machine.Value.{KeepsRoom};
 
 use crate::log::Entries;
-use crate::place::{Leaving, Place, Polling};
+use crate::point::{Leaving, Point, Polling};
 use crate::seat::SeatParty;
 use crate::seat::register::Register;
 use crate::step::MakingStep;
@@ -44,7 +44,7 @@ fn head_at(registers: &[Register], n: usize) -> u16
 
 /// The reserve is given back before the seat leaves.
 fn leaving(reserve: &[u16]) -> Leaving
-    ensures { result ≡ leave_place reserve.now }
+    ensures { result ≡ leave_point reserve.now }
 {
     if reserve.is_empty() {
         Leaving::Parting
@@ -80,7 +80,7 @@ impl<L: Entries> SeatParty<L> {
         ensures forgotten { self.new.forgotten ≡ self.old.forgotten }
     {
         let more = (self.shaded as usize) < self.root_count();
-        self.place = Place::Polling(if more {
+        self.point = Point::Polling(if more {
             Polling::Shading
         } else {
             Polling::Answering
@@ -148,11 +148,11 @@ impl<L: Entries> SeatParty<L> {
 
     /// Begins to leave.
     pub(crate) fn go(&mut self)
-        ensures seat { self.new.seat ≡ record self.old.seat { place = Leaves (leave_place self.old.seat.reserve) } }
+        ensures seat { self.new.seat ≡ record self.old.seat { point = Leaves (leave_point self.old.seat.reserve) } }
         ensures spare { self.new.spare ≡ self.old.spare }
         ensures forgotten { self.new.forgotten ≡ self.old.forgotten }
     {
-        self.place = Place::Leaving(leaving(self.reserve.as_slice()));
+        self.point = Point::Leaving(leaving(self.reserve.as_slice()));
     }
 
     /// The give back of the reserve.
@@ -175,7 +175,7 @@ impl<L: Entries> SeatParty<L> {
     {
         let count = self.reserve.len() as u32;
         self.reserve = Reserve::new();
-        self.place = Place::Leaving(Leaving::Parting);
+        self.point = Point::Leaving(Leaving::Parting);
         self.note(Entry::GivesBack {
             seat: number,
             count,

@@ -9,24 +9,24 @@ ghost use Rattle.core_machine.specs.table.Operation.{address_of};
 ghost use Rattle.core_machine.specs.machine.Value.{KeepsRoom};
 
 use crate::log::Entries;
-use crate::place::{Access, Leaving, Making, Place, Polling};
+use crate::point::{Access, Leaving, Making, Point, Polling};
 use crate::seat::SeatParty;
 use heap_model::Heap;
 
 impl<L: Entries> SeatParty<L> {
     /// Learns what a step of making found.
     #[inline(always)]
-    fn learn_making(&mut self, heap: &Heap, number: u8, place: Making, found: u64)
+    fn learn_making(&mut self, heap: &Heap, number: u8, point: Making, found: u64)
         requires limits { IsHeap heap.now }
         requires number { number < heap.now.seats }
         requires fits { Fits heap.now self.old.seat }
-        requires at_place { FitsMaking heap.now self.old.seat place }
+        requires at_point { FitsMaking heap.now self.old.seat point }
         requires spare { 0 < self.old.spare }
-        ensures seat { self.new.seat ≡ seat_after (making_move heap.now number self.old.seat place) found }
+        ensures seat { self.new.seat ≡ seat_after (making_move heap.now number self.old.seat point) found }
         ensures spare { KeepsRoom self.old self.new }
         ensures forgotten { self.new.forgotten ≡ self.old.forgotten }
     {
-        match place {
+        match point {
             Making::Granting => self.learn_budget(heap, found),
             Making::Withdrawing => self.learn_withdrawal(number),
             Making::Gathering => self.learn_claim(heap, number, found),
@@ -41,18 +41,18 @@ impl<L: Entries> SeatParty<L> {
 
     /// Learns what a step of access found.
     #[inline(always)]
-    fn learn_access(&mut self, heap: &Heap, number: u8, place: Access, found: u64)
+    fn learn_access(&mut self, heap: &Heap, number: u8, point: Access, found: u64)
         requires limits { IsHeap heap.now }
         requires number { number < heap.now.seats }
         requires fits { Fits heap.now self.old.seat }
-        requires at_place { FitsAccess self.old.seat place }
-        requires found { FoundPointsWithin heap.now (address_of (access_move heap.now number self.old.seat place).step) found }
+        requires at_point { FitsAccess self.old.seat point }
+        requires found { FoundPointsWithin heap.now (address_of (access_move heap.now number self.old.seat point).step) found }
         requires spare { 0 < self.old.spare }
-        ensures seat { self.new.seat ≡ seat_after (access_move heap.now number self.old.seat place) found }
+        ensures seat { self.new.seat ≡ seat_after (access_move heap.now number self.old.seat point) found }
         ensures spare { KeepsRoom self.old self.new }
         ensures forgotten { self.new.forgotten ≡ self.old.forgotten }
     {
-        match place {
+        match point {
             Access::LoadingMeta => self.learn_meta(number, found),
             Access::Walking => self.learn_link(found),
             Access::LoadingSpot => self.learn_address(found),
@@ -61,21 +61,21 @@ impl<L: Entries> SeatParty<L> {
             Access::Naming => self.learn_name(number, found),
             Access::LoadingOld => self.learn_old(found),
             Access::ShadingOld => self.finish_old(),
-            Access::ShadingNew => self.place = Place::Access(Access::Swapping),
+            Access::ShadingNew => self.point = Point::Access(Access::Swapping),
             Access::Swapping => self.learn_swap(number, found),
         }
     }
 
     /// Learns what a step of answering found.
-    fn learn_polling(&mut self, number: u8, place: Polling, found: u64)
+    fn learn_polling(&mut self, number: u8, point: Polling, found: u64)
         requires registers { length self.old.seat.registers ≡ register_count }
-        requires at_place { FitsPolling self.old.seat place }
+        requires at_point { FitsPolling self.old.seat point }
         requires spare { 1 < self.old.spare }
-        ensures seat { self.new.seat ≡ seat_after (polling_move number self.old.seat place) found }
+        ensures seat { self.new.seat ≡ seat_after (polling_move number self.old.seat point) found }
         ensures spare { KeepsRoom self.old self.new }
         ensures forgotten { self.new.forgotten ≡ self.old.forgotten }
     {
-        match place {
+        match point {
             Polling::Asking => self.learn_phase(number, found),
             Polling::Shading => self.learn_root(),
             Polling::Answering => self.learn_answer(number),
@@ -83,14 +83,14 @@ impl<L: Entries> SeatParty<L> {
     }
 
     /// Learns that a step of leaving was made.
-    fn learn_leaving(&mut self, number: u8, place: Leaving)
+    fn learn_leaving(&mut self, number: u8, point: Leaving)
         requires few { length self.old.seat.reserve ≤ most_reserve }
         requires spare { 0 < self.old.spare }
-        ensures seat { self.new.seat ≡ seat_after (leaving_move number self.old.seat place) 0 }
+        ensures seat { self.new.seat ≡ seat_after (leaving_move number self.old.seat point) 0 }
         ensures spare { KeepsRoom self.old self.new }
         ensures forgotten { self.new.forgotten ≡ self.old.forgotten }
     {
-        match place {
+        match point {
             Leaving::Emptying => self.learn_empty(number),
             Leaving::Parting => self.learn_leave(number),
         }
@@ -108,14 +108,14 @@ impl<L: Entries> SeatParty<L> {
         ensures spare { KeepsRoom self.old self.new }
         ensures forgotten { self.new.forgotten ≡ self.old.forgotten }
     {
-        match self.place {
-            Place::Idle => (),
-            Place::Making(place) => self.learn_making(heap, number, place, found),
-            Place::Local => self.learn_local(number, found),
-            Place::Access(place) => self.learn_access(heap, number, place, found),
-            Place::Polling(place) => self.learn_polling(number, place, found),
-            Place::Collecting(place) => self.learn_collecting(number, place, found),
-            Place::Leaving(place) => self.learn_leaving(number, place),
+        match self.point {
+            Point::Idle => (),
+            Point::Making(point) => self.learn_making(heap, number, point, found),
+            Point::Local => self.learn_local(number, found),
+            Point::Access(point) => self.learn_access(heap, number, point, found),
+            Point::Polling(point) => self.learn_polling(number, point, found),
+            Point::Collecting(point) => self.learn_collecting(number, point, found),
+            Point::Leaving(point) => self.learn_leaving(number, point),
         }
     }
 }

@@ -1,7 +1,7 @@
 ghost use Rattle.std.specs.Prelude.{◌≡◌, ◌+◌, ◌-◌, ◌<◌, ◌≤◌, ◌^◌, length, drop, slice_get};
 
 use crate::log::{CountsEntries, Entries, ShowsLast, ShowsRecent};
-use crate::place::Place;
+use crate::point::Point;
 use crate::seat::SeatParty;
 use crate::seat::looks::Looks;
 use crate::seat::register::Register;
@@ -135,10 +135,10 @@ impl<L: Entries> SeatParty<L> {
     }
 
     /// Where it stands in its call.
-    pub fn place(&self) -> Place
-        ensures { result ≡ self.now.seat.place }
+    pub fn point(&self) -> Point
+        ensures { result ≡ self.now.seat.point }
     {
-        self.place
+        self.point
     }
 
     /// The fragment that its call has reached on the way to a field.

@@ -13,9 +13,9 @@ ghost use Rattle.core_machine.specs.table.Layout.{FitsSpot};
 ghost use Rattle.core_machine.specs.machine.Value.{KeepsRoom};
 
 use crate::log::Entries;
-use crate::place::{Access, Making, Place};
+use crate::point::{Access, Making, Point};
 use crate::seat::SeatParty;
-use crate::seat::commands::Parts;
+use crate::seat::commands::Operands;
 use crate::step::{SpineStep, Step};
 use heap_model::{Command, Heap, Reply};
 use heap_words::Spot;
@@ -67,7 +67,7 @@ impl<L: Entries> SeatParty<L> {
         let need = u64::from(self.spine_need());
         if found > most || most - found < need {
             self.used = found;
-            self.place = Place::Making(Making::Withdrawing);
+            self.point = Point::Making(Making::Withdrawing);
             return;
         }
         self.go_on(heap);
@@ -98,7 +98,7 @@ impl<L: Entries> SeatParty<L> {
         ensures forgotten { self.new.forgotten ≡ self.old.forgotten }
     {
         self.spine = Spot::told(found);
-        self.place = Place::Making(Making::Listing);
+        self.point = Point::Making(Making::Listing);
     }
 
     /// The store of the spine's next word.
@@ -125,7 +125,7 @@ impl<L: Entries> SeatParty<L> {
     {
         self.listed += 1;
         let more = self.listed < self.spine_need();
-        self.place = Place::Making(if more {
+        self.point = Point::Making(if more {
             Making::Listing
         } else {
             Making::Storing
@@ -139,7 +139,7 @@ impl<L: Entries> SeatParty<L> {
         ensures forgotten { self.new.forgotten ≡ self.old.forgotten }
     {
         self.address = Spot::told(found);
-        self.place = Place::Access(Access::Indexing);
+        self.point = Point::Access(Access::Indexing);
     }
 
     /// The load of the spine word that names the cell's fragment.
@@ -148,7 +148,7 @@ impl<L: Entries> SeatParty<L> {
         requires spot { FitsSpot self.now.seat.address }
         ensures { OnSpine result ≡ (index_move self.now.seat).step }
     {
-        let index = Parts::of(&self.command).field / FRAGMENT_CELLS;
+        let index = Operands::of(&self.command).field / FRAGMENT_CELLS;
         SpineStep::WordLoad {
             half: self.address.half,
             offset: self.address.offset + index,

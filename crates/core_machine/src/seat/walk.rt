@@ -2,16 +2,16 @@ ghost use Rattle.std.specs.Prelude.{◌≡◌, ◌*◌, ◌<◌, ◌≤◌, ◌^
 ghost use Rattle.heap_model.specs.Limits.{last_index, register_count};
 ghost use Rattle.core_machine.specs.seat.Commands.{field_of};
 ghost use Rattle.heap_words.specs.Loaded.{pointer_in, array_length_of, payload_in};
-ghost use Rattle.core_machine.specs.seat.Access.{row_of, part_of, has_barrier_of, field_place_of, way_place_of, access_start, with_field_place, after_walk, after_length, after_index, field_reply_of, meta_reply_of};
+ghost use Rattle.core_machine.specs.seat.Access.{row_of, part_of, has_barrier_of, field_point_of, way_point_of, access_start, with_field_place, after_walk, after_length, after_index, field_reply_of, meta_reply_of};
 ghost use Rattle.core_machine.specs.seat.AccessMoves.{open_move};
 ghost use Rattle.core_machine.specs.seat.Registers.{register_in};
 ghost use Rattle.core_machine.specs.Moves.{seat_after};
 ghost use Rattle.core_machine.specs.machine.Value.{KeepsRoom};
 
 use crate::log::Entries;
-use crate::place::{Access, Place};
+use crate::point::{Access, Point};
 use crate::seat::SeatParty;
-use crate::seat::commands::Parts;
+use crate::seat::commands::Operands;
 use crate::seat::register::Register;
 use heap_model::phase_plan::{BARRIERS, CLEARING, CYCLE_PHASES};
 use heap_model::{Command, Reply};
@@ -64,11 +64,11 @@ impl<L: Entries> SeatParty<L> {
         ensures forgotten { self.new.forgotten ≡ self.old.forgotten }
     {
         let Register::Object { head, .. } = self.registers[r as usize] else {
-            self.place = Place::Local;
+            self.point = Point::Local;
             return;
         };
         self.reached = head;
-        self.place = Place::Access(Access::LoadingMeta);
+        self.point = Point::Access(Access::LoadingMeta);
     }
 
     /// Learns where the field of the call stands.
@@ -78,7 +78,7 @@ impl<L: Entries> SeatParty<L> {
         ensures spare { self.new.spare ≡ self.old.spare }
         ensures forgotten { self.new.forgotten ≡ self.old.forgotten }
     {
-        let field = Parts::of(&self.command).field;
+        let field = Operands::of(&self.command).field;
         self.links = row(field);
         self.part = part(field);
     }
@@ -92,8 +92,8 @@ impl<L: Entries> SeatParty<L> {
     }
 
     /// What is done with the field.
-    fn field_place(&self) -> Access
-        ensures { result ≡ field_place_of self.now.seat self.now.seat.command }
+    fn field_point(&self) -> Access
+        ensures { result ≡ field_point_of self.now.seat self.now.seat.command }
     {
         match self.command {
             Command::Set { .. } if self.has_barrier() => Access::LoadingOld,
@@ -103,11 +103,11 @@ impl<L: Entries> SeatParty<L> {
     }
 
     /// Where the way stands at a fragment.
-    fn way_place(&self) -> Access
-        ensures { result ≡ way_place_of self.now.seat }
+    fn way_point(&self) -> Access
+        ensures { result ≡ way_point_of self.now.seat }
     {
         if self.links == 0 {
-            self.field_place()
+            self.field_point()
         } else {
             Access::Walking
         }
@@ -124,7 +124,7 @@ impl<L: Entries> SeatParty<L> {
             self.reached = link_in(found);
             self.links -= 1;
         }
-        self.place = Place::Access(self.way_place());
+        self.point = Point::Access(self.way_point());
     }
 
     /// Learns by the meta whether the way goes by links or by a spine.
@@ -137,8 +137,8 @@ impl<L: Entries> SeatParty<L> {
     {
         if array_length(found).is_some() {
             self.links = 0;
-            self.part = (Parts::of(&self.command).field % 4) as u8;
-            self.place = Place::Access(Access::LoadingSpot);
+            self.part = (Operands::of(&self.command).field % 4) as u8;
+            self.point = Point::Access(Access::LoadingSpot);
             return;
         }
         self.learn_field_place();
@@ -153,7 +153,7 @@ impl<L: Entries> SeatParty<L> {
         ensures forgotten { self.new.forgotten ≡ self.old.forgotten }
     {
         self.reached = payload(found);
-        self.place = Place::Access(self.field_place());
+        self.point = Point::Access(self.field_point());
     }
 
     /// Learns the object's meta.

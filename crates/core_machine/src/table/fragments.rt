@@ -2,11 +2,11 @@ ghost use Rattle.std.specs.Prelude.{◌≡◌, ◌+◌, ◌*◌, ◌<◌, ◌≤
 ghost use Rattle.std.specs.List.{list_all};
 ghost use Rattle.heap_model.specs.Limits.{group_fragments, most_groups};
 ghost use Rattle.core_machine.specs.seat.Making.{first_group_of, last_group_of, last_run as last_run_of};
-ghost use Rattle.core_machine.specs.table.Fragments.{in_group, part_in, part_out, mask_of, clear_in};
+ghost use Rattle.core_machine.specs.table.Fragments.{in_group, inside_group, outside_group, mask_of, clear_in};
 
 use arrayvec::ArrayVec;
 use heap_model::limits::{GROUP_FRAGMENTS, MOST_RESERVE};
-use heap_words::{is_clear, place_bit};
+use heap_words::{is_clear, fragment_bit};
 
 /// The most fragments that a seat keeps between two calls, and one more.
 pub const MOST_KEPT: usize = MOST_RESERVE as usize + 1;
@@ -23,12 +23,12 @@ pub type Hand = ArrayVec<u16, MOST_HELD>;
 /// The bits of those fragments that are of this group.
 #[tactic(auto, unfolding(crate::specs::table::Fragments::mask_of))]
 pub fn mask_in(fragments: &[u16], group: u16) -> u16
-    ensures { result ≡ mask_of (part_in group fragments.now) }
+    ensures { result ≡ mask_of (inside_group group fragments.now) }
 {
     fragments
         .iter()
         .filter(|fragment| **fragment / GROUP_FRAGMENTS == group)
-        .fold(0, |bits, fragment| bits | place_bit(*fragment))
+        .fold(0, |bits, fragment| bits | fragment_bit(*fragment))
 }
 
 /// The bits of these fragments.
@@ -38,12 +38,12 @@ pub fn mask(fragments: &[u16]) -> u16
 {
     fragments
         .iter()
-        .fold(0, |bits, fragment| bits | place_bit(*fragment))
+        .fold(0, |bits, fragment| bits | fragment_bit(*fragment))
 }
 
 /// How many of the fragments are of this group.
 pub fn count_in(fragments: &[u16], group: u16) -> usize
-    ensures count { result ≡ length (part_in group fragments.now) }
+    ensures count { result ≡ length (inside_group group fragments.now) }
     ensures few { result ≤ length fragments.now }
 {
     fragments
@@ -63,11 +63,11 @@ pub fn all_in(fragments: &[u16], group: u16) -> bool
 
 /// Leaves out the fragments of this group.
 pub fn leave_out(hand: &mut Hand, group: u16)
-    ensures { hand.new.items ≡ part_out group hand.old.items }
+    ensures { hand.new.items ≡ outside_group group hand.old.items }
 {
     let mut kept = 0;
-    for place in 0..hand.len() {
-        let fragment = hand[place];
+    for position in 0..hand.len() {
+        let fragment = hand[position];
         if fragment / GROUP_FRAGMENTS != group {
             hand[kept] = fragment;
             kept += 1;
@@ -83,8 +83,8 @@ pub fn add_clear(hand: &mut Hand, group: u16, word: u64)
     ensures items { hand.new.items ≡ hand.old.items ++ clear_in group word }
     ensures few { length hand.new.items ≤ length hand.old.items + group_fragments }
 {
-    for place in 0..GROUP_FRAGMENTS {
-        let fragment = GROUP_FRAGMENTS * group + place;
+    for position in 0..GROUP_FRAGMENTS {
+        let fragment = GROUP_FRAGMENTS * group + position;
         if is_clear(word, fragment) {
             hand.push(fragment);
         }

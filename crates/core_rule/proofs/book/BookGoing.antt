@@ -5,7 +5,7 @@ use Rattle.core_rule.proofs.Terms.{Entry, Heap, graph_of, register_value, Shadin
 use Rattle.core_machine.specs.declared.collector.stage.Scan.{Scan}
 use Rattle.core_machine.specs.declared.collector.stage.SpineScan.{SpineScan}
 use Rattle.core_machine.specs.declared.collector.stage.Stage.TheVariants as stages
-use Rattle.core_machine.specs.declared.place.Place.TheVariants as places
+use Rattle.core_machine.specs.declared.point.Point.TheVariants as points
 use Rattle.core_rule.proofs.colours.ShadeColours.{with_mark, mark_keeps_other_colour}
 use Rattle.core_rule.proofs.book.Going.{stays, OwnersGoOn, MadeGoesOn}
 use Rattle.core_rule.proofs.ways.LoadedObjects.{RefersTo}
@@ -13,7 +13,7 @@ use Rattle.core_rule.proofs.ways.LoadedObjects.{RefersTo}
 -- why a fragment comes to be marked: a register holds its object, a set has loaded it, or the collector's scan led to it, by a word of it or of its spine
 pub data IsNamed (heap : Heap) (state : State) (book : Book) (f : ℕ) : Type 0 where
   by_register : (number r : ℕ) → RefersTo book.made book.owner book.fragments (register_value (graph_of heap book.history) number r) f → IsNamed heap state book f
-  by_set : (number : ℕ) → number < heap.seats → (seat_at state number).place ≡ places.Access ShadingOld → head_of (seat_at state number).loaded ≡ Some f → IsNamed heap state book f
+  by_set : (number : ℕ) → number < heap.seats → (seat_at state number).point ≡ points.Access ShadingOld → head_of (seat_at state number).loaded ≡ Some f → IsNamed heap state book f
   by_scan : (scan : Scan) (next : ℕ) → state.collector.stage ≡ stages.Shading scan f next → IsNamed heap state book f
   by_spine : (s : SpineScan) → state.collector.stage ≡ stages.Spreading s f → IsNamed heap state book f
 

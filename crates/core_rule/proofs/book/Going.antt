@@ -2,15 +2,15 @@
 use Rattle.std.proofs.Common.{◌≡◌, ℕ, ◌<◌, ◌≤◌, ◌⊎◌, List, length}
 use Rattle.core_rule.proofs.Terms.{Id, id_at, Owner, Free, Taken, Borne, Kept, Dead, taken_bit}
 
--- whose a fragment is now, where so many objects had been made: it stays whose it was, is taken, given back, borne, made part of a new object, to be
+-- whose a fragment is now, where so many objects had been made: it stays whose it was, is taken, given back, borne, made a new object's, to be
 -- freed, or freed
 pub data OwnerGoes (made : ℕ) : Owner → Owner → Type 0 where
   stays : (o : Owner) → OwnerGoes made o o
   is_taken : (number : ℕ) → OwnerGoes made Free (Taken number)
   is_given : (number : ℕ) → OwnerGoes made (Taken number) Free
   is_borne : (number : ℕ) → OwnerGoes made (Taken number) (Borne number)
-  takes_part : (number i k : ℕ) → made ≤ i → OwnerGoes made (Taken number) (Kept i k)
-  becomes_part : (number i k : ℕ) → made ≤ i → OwnerGoes made (Borne number) (Kept i k)
+  taken_becomes_kept : (number i k : ℕ) → made ≤ i → OwnerGoes made (Taken number) (Kept i k)
+  borne_becomes_kept : (number i k : ℕ) → made ≤ i → OwnerGoes made (Borne number) (Kept i k)
   is_settled : (i k : ℕ) → OwnerGoes made (Kept i k) (Dead i k)
   is_freed : (i k : ℕ) → OwnerGoes made (Dead i k) Free
 

@@ -1,7 +1,7 @@
 -- How whose the fragments are goes on by each kind of step.
 use Rattle.std.proofs.Common.{◌≡◌, ℕ, ◌≤◌, List, inl, inr, refl, sym, ap, subst, arith}
 use Rattle.core_rule.proofs.Terms.{tally, Colour, White, Grey, Black, Owner, Free, Taken, Borne, Kept, Dead, taken_bit, owner_after}
-use Rattle.core_rule.proofs.book.Going.{OwnerGoes, stays, is_taken, is_given, is_borne, takes_part, becomes_part, is_settled, is_freed, OwnersGoOn}
+use Rattle.core_rule.proofs.book.Going.{OwnerGoes, stays, is_taken, is_given, is_borne, taken_becomes_kept, borne_becomes_kept, is_settled, is_freed, OwnersGoOn}
 use Rattle.core_rule.proofs.marking.Settled.{settled_owner, settled_owners, settled_bit_same}
 use Rattle.core_rule.proofs.owners.Handed.{handed_cases}
 use Rattle.core_rule.proofs.owners.Keeping.{kept_by, kept_by_cases}
@@ -43,14 +43,14 @@ module _ (made : ℕ) (owner : ℕ → Owner) (fs : List ℕ) where
   -- a seat's are a new object's
   pub owners_go_on_by_keeping : (number : ℕ) → ((f : ℕ) → 1 ≤ tally f fs → IsOwn number (owner f)) → OwnersGoOn made owner (kept_by made fs owner)
   owners_go_on_by_keeping number own = record {
-    each = λ f. kept_by_cases made fs owner (OwnerGoes made (owner f)) f (λ there. part (owner f) _ (own f there)) (λ away. stays (owner f));
+    each = λ f. kept_by_cases made fs owner (OwnerGoes made (owner f)) f (λ there. becomes_kept (owner f) _ (own f there)) (λ away. stays (owner f));
     one_way = inl (λ f. kept_by_cases made fs owner (λ o. taken_bit o ≤ taken_bit (owner f)) f (λ there. omega (arith, own_is_taken number (owner f) (own f there))) (λ away. omega arith));
   }
     where
-      part : (o : Owner) (k : ℕ) → IsOwn number o → OwnerGoes made o (Kept made k)
-      part (Taken r) k own = takes_part r made k (omega arith)
-      part (Borne r) k own = becomes_part r made k (omega arith)
-      part _ k own = absurd (omega (arith, own))
+      becomes_kept : (o : Owner) (k : ℕ) → IsOwn number o → OwnerGoes made o (Kept made k)
+      becomes_kept (Taken r) k own = taken_becomes_kept r made k (omega arith)
+      becomes_kept (Borne r) k own = borne_becomes_kept r made k (omega arith)
+      becomes_kept _ k own = absurd (omega (arith, own))
 
 -- marking ends
 pub owners_go_on_by_settling : (made : ℕ) (owner : ℕ → Owner) (colour : ℕ → Colour) → OwnersGoOn made owner (settled_owners owner colour)

@@ -2,7 +2,7 @@
 use Rattle.std.proofs.Common.{◌≡◌, ℕ, ◌+◌, ◌*◌, ◌<◌, ◌==◌, List, [], ◌∷◌, ◌++◌, length, slice_set, refl, sym, ap, ◌∙◌, subst, arith}
 use Rattle.std.specs.Prelude.{if◌then◌else◌}
 use Rattle.std.proofs.lemmas.List.{get_or-set_same, get_or-set_other}
-use Rattle.core_rule.proofs.Terms.{Entry, Heap, Id, effect_of, words_granted, words_returned, Stage, sum_upto, Place, State, seat_at, Seat, absent_seat, Book, Colour, BudgetsStand}
+use Rattle.core_rule.proofs.Terms.{Entry, Heap, Id, effect_of, words_granted, words_returned, Stage, sum_upto, Point, State, seat_at, Seat, absent_seat, Book, Colour, BudgetsStand}
 use Rattle.core_rule.proofs.Terms.{SweepCounts, of_seats, granted_at, placed_at, refused_at, kept_weight, dead_weight, kept_sum, dead_sum, words_of_object, words_in_half, nodes_in}
 use Rattle.core_rule.proofs.Terms.{returned_in_cycle, Owner, Kept, Dead, next_spine}
 use Rattle.heap_words.specs.declared.spot.Spot.{Spot}
@@ -20,18 +20,18 @@ abbrev pub stepped : State → ℕ → List ℕ → Seat → State
 stepped state number words seat = record state { words = words; seats = slice_set state.seats number seat }
 
 -- a sum over seats changes by what the seat that steps has more
-pub seat_sum_after_step : (heap : Heap) (state : State) (number : ℕ) (words : List ℕ) (seat : Seat) (weight : Seat → Place → ℕ) → number < heap.seats → length state.seats ≡ heap.seats
-    → of_seats heap (stepped state number words seat) weight + weight (seat_at state number) (seat_at state number).place ≡ of_seats heap state weight + weight seat seat.place
+pub seat_sum_after_step : (heap : Heap) (state : State) (number : ℕ) (words : List ℕ) (seat : Seat) (weight : Seat → Point → ℕ) → number < heap.seats → length state.seats ≡ heap.seats
+    → of_seats heap (stepped state number words seat) weight + weight (seat_at state number) (seat_at state number).point ≡ of_seats heap state weight + weight seat seat.point
 seat_sum_after_step heap state number words seat weight here seated =
-    let of : Seat → ℕ = λ s. weight s s.place in
+    let of : Seat → ℕ = λ s. weight s s.point in
     let now : seat_at (stepped state number words seat) number ≡ seat = get_or-set_same state.seats number seat absent_seat (omega (arith, here, seated)) in
     subst (λ s. of_seats heap (stepped state number words seat) weight + of (seat_at state number) ≡ of_seats heap state weight + of s) now
     (sum_but_one_number heap.seats (λ r. of (seat_at (stepped state number words seat) r)) (λ r. of (seat_at state r)) number here
     (λ r below apart. ap of (get_or-set_other state.seats number r seat absent_seat apart)))
 
 -- so it stays where the seat has as much as before
-seats_stay : (heap : Heap) (state : State) (number : ℕ) (words : List ℕ) (seat : Seat) (weight : Seat → Place → ℕ) → number < heap.seats → length state.seats ≡ heap.seats
-    → weight seat seat.place ≡ weight (seat_at state number) (seat_at state number).place → of_seats heap (stepped state number words seat) weight ≡ of_seats heap state weight
+seats_stay : (heap : Heap) (state : State) (number : ℕ) (words : List ℕ) (seat : Seat) (weight : Seat → Point → ℕ) → number < heap.seats → length state.seats ≡ heap.seats
+    → weight seat seat.point ≡ weight (seat_at state number) (seat_at state number).point → of_seats heap (stepped state number words seat) weight ≡ of_seats heap state weight
 seats_stay heap state number words seat weight here seated same = omega (arith, seat_sum_after_step heap state number words seat weight here seated, same)
 
 -- what is to be freed then was so before, and is so then where it was
@@ -149,7 +149,7 @@ module _ (heap : Heap) (book now : Book) (grants : SameGrants heap book now) whe
       (grants.dead.stays (16 * group + j)) (grants.dead.was (16 * group + j)))
 
   pub sweep_counts_same : (stage : Stage) → SweepCounts (words_of_object (nodes_in heap book)) book.owner stage → SweepCounts (words_of_object (nodes_in heap now)) now.owner stage
-  sweep_counts_same (stages.Examining group dead place counted) is = is ∙ sym (group_same group place)
+  sweep_counts_same (stages.Examining group dead position counted) is = is ∙ sym (group_same group position)
   sweep_counts_same (stages.Freeing group dead counted) is = is ∙ sym (group_same group 16)
   sweep_counts_same _ is = tt
 

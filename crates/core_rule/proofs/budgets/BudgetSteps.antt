@@ -10,9 +10,9 @@ use Rattle.core_rule.proofs.budgets.WeightSums.{seat_sums_within_limit}
 
 -- how many words a call has granted, placed in this half, and refused
 pub record HasWeights (half : ℕ) (seat : Seat) (given placed refused : ℕ) : Type 0 where
-  pub given_is : granted_at seat seat.place ≡ given
-  pub placed_is : placed_at half seat seat.place ≡ placed
-  pub refused_is : refused_at seat seat.place ≡ refused
+  pub given_is : granted_at seat seat.point ≡ given
+  pub placed_is : placed_at half seat seat.point ≡ placed
+  pub refused_is : refused_at seat seat.point ≡ refused
 
 -- the new book tells of an array's words that are granted to it
 pub record TellsBorn (history now : List Entry) (given : ℕ) : Type 0 where

@@ -3,7 +3,7 @@ use Rattle.std.proofs.Common.{◌≡◌, ◌≢◌, ℕ, zero, suc, ◌+◌, ◌
 use Rattle.std.specs.Prelude.{if◌then◌else◌}
 use Rattle.std.proofs.lemmas.Bool.{cases_eq, cases_lt}
 use Rattle.std.proofs.lemmas.Bool.Decides.{nat_tests}
-use Rattle.core_rule.proofs.Terms.{cycle_phases, Heap, Id, Node, Stage, Listing, Bearing, Place, State, seat_at, sum_upto, Seat, spine_need, Book, Colour, BudgetsStand, granted}
+use Rattle.core_rule.proofs.Terms.{cycle_phases, Heap, Id, Node, Stage, Listing, Bearing, Point, State, seat_at, sum_upto, Seat, spine_need, Book, Colour, BudgetsStand, granted}
 use Rattle.core_rule.proofs.Terms.{granted_at, placed_at, kept_weight, kept_sum, words_of_object, words_in_half, nodes_in, copying_words, Bits, HalvesStand, IsLeaving}
 use Rattle.core_rule.proofs.Terms.{WhileCopying, Owner, Free, Kept, Open, CopyingStands, IsToCopy, Rule, next_spine}
 use Rattle.heap_model.specs.PhasePlan.{copying as copying_phase, sweep as sweep_phase, marking as marking_phase}
@@ -12,8 +12,8 @@ use Rattle.core_machine.specs.collector.CopyingTurns.{sentinel_at}
 use Rattle.core_machine.specs.declared.collector.stage.ArrayAt.{ArrayAt}
 use Rattle.core_machine.specs.declared.collector.stage.Copying.TheVariants as copying
 use Rattle.core_machine.specs.declared.collector.stage.Stage.TheVariants as stages
-use Rattle.core_machine.specs.declared.place.Making.TheVariants.{Storing}
-use Rattle.core_machine.specs.declared.place.Place.TheVariants as places
+use Rattle.core_machine.specs.declared.point.Making.TheVariants.{Storing}
+use Rattle.core_machine.specs.declared.point.Point.TheVariants as points
 use Rattle.core_rule.proofs.lists.SumLemmas.{sum-suc, sum_le}
 
 -- a sum of numbers that are no more, and by how much one of them is less
@@ -56,10 +56,10 @@ some_or_none true n = omega arith
 some_or_none false n = omega arith
 
 -- a call has no more words placed in a half than it has granted
-pub placed_within_granted : (half : ℕ) (seat : Seat) (place : Place) → placed_at half seat place ≤ granted_at seat place
-placed_within_granted half seat (places.Making Listing) = some_or_none (seat.spine.half == half) (spine_need seat)
-placed_within_granted half seat (places.Making Storing) = some_or_none (seat.spine.half == half) (spine_need seat)
-placed_within_granted half seat (places.Making Bearing) = some_or_none (seat.spine.half == half) (spine_need seat)
+pub placed_within_granted : (half : ℕ) (seat : Seat) (point : Point) → placed_at half seat point ≤ granted_at seat point
+placed_within_granted half seat (points.Making Listing) = some_or_none (seat.spine.half == half) (spine_need seat)
+placed_within_granted half seat (points.Making Storing) = some_or_none (seat.spine.half == half) (spine_need seat)
+placed_within_granted half seat (points.Making Bearing) = some_or_none (seat.spine.half == half) (spine_need seat)
 placed_within_granted half seat _ = omega arith
 
 module _ (nodes : ℕ → Node) (spines : ℕ → Spot) (half : ℕ) where
@@ -109,13 +109,13 @@ module _ (heap : Heap) (state : State) (book : Book) (bits : Bits heap state.wor
 
   -- before the next spine there are no more words than are granted but for those that a seat has granted in another place or in none yet
   pub offset_within_granted_and_placed : (number : ℕ) → number < heap.seats
-      → (next_spine heap state.words).offset + granted_at (seat_at state number) (seat_at state number).place ≤ granted heap state book + placed_at half (seat_at state number) (seat_at state number).place
+      → (next_spine heap state.words).offset + granted_at (seat_at state number) (seat_at state number).point ≤ granted heap state book + placed_at half (seat_at state number) (seat_at state number).point
   offset_within_granted_and_placed number here =
-      let of : (Seat → Place → ℕ) → ℕ → ℕ = λ weight r. weight (seat_at state r) (seat_at state r).place in
-      let seats = sum_within heap.seats number (of (placed_at half)) (of granted_at) (λ r below. placed_within_granted half (seat_at state r) (seat_at state r).place) here in
+      let of : (Seat → Point → ℕ) → ℕ → ℕ = λ weight r. weight (seat_at state r) (seat_at state r).point in
+      let seats = sum_within heap.seats number (of (placed_at half)) (of granted_at) (λ r below. placed_within_granted half (seat_at state r) (seat_at state r).point) here in
       let kept = kept_beside_copy (nodes_in heap book) book.spines half heap state.words book.made book.owner book.colour book.fragments bits state.collector.stage halves.copies in
       elim (leaving_or_not state.collector.phase state.collector.stage)
-      as (λ _. (next_spine heap state.words).offset + granted_at (seat_at state number) (seat_at state number).place ≤ granted heap state book + placed_at half (seat_at state number) (seat_at state number).place) [
+      as (λ _. (next_spine heap state.words).offset + granted_at (seat_at state number) (seat_at state number).point ≤ granted heap state book + placed_at half (seat_at state number) (seat_at state number).point) [
         | inl leaves ↦ let level = budgets.leaving leaves in omega (arith, level, seats, kept)
         | inr stays ↦ let level = budgets.level stays in omega (arith, level, seats, kept)
       ]
@@ -125,7 +125,7 @@ pub offset_within_granted : (heap : Heap) (state : State) (book : Book) → Rule
 offset_within_granted heap state book rule =
     let some : 0 < heap.seats = rule.machine.limits.some_seat in
     let less = offset_within_granted_and_placed heap state book rule.heap_stands.control_words rule.space.budgets rule.space.halves 0 some in
-    omega (arith, less, placed_within_granted (next_spine heap state.words).half (seat_at state 0) (seat_at state 0).place)
+    omega (arith, less, placed_within_granted (next_spine heap state.words).half (seat_at state 0) (seat_at state 0).point)
 
 -- a spine word that is somebody's stands within the table
 pub owned_offset_within_table : (heap : Heap) (state : State) (book : Book) → Rule heap state book → (half offset : ℕ) → book.spine_owner half offset ≢ Open → offset < 2 * heap.spine

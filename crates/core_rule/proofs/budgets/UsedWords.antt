@@ -1,10 +1,10 @@
 -- The spine words that a call finds to be in use are what a run may show, also once others' entries came.
 use Rattle.std.proofs.Common.{◌≡◌, ℕ, false, List, [], ◌∷◌, ◌++◌, arith}
-use Rattle.core_rule.proofs.Terms.{Entry, Heap, is_of, is_reply_to, since_reply, Withdrawing, Place, Seat, UsedStands}
+use Rattle.core_rule.proofs.Terms.{Entry, Heap, is_of, is_reply_to, since_reply, Withdrawing, Point, Seat, UsedStands}
 use Rattle.heap_model.specs.account.Refusals.{FindsSpine}
 use Rattle.heap_model.proofs.Histories.{total-more}
 use Rattle.heap_model.proofs.account_lemmas.Windows.{after_last-no}
-use Rattle.core_machine.specs.declared.place.Place.TheVariants as places
+use Rattle.core_machine.specs.declared.point.Point.TheVariants as points
 use Rattle.core_rule.proofs.counts.EffectSums.{total_but_grows_by_other}
 use Rattle.core_rule.proofs.entries.Others.{is_no_reply_to_other}
 
@@ -19,6 +19,6 @@ module _ (heap : Heap) (number : ℕ) (history : List Entry) (entry : Entry) (ot
       let returned_since = total-more (λ e. e.returned) (since_reply number history) entry in
       rw since (omega (arith, finds.0, granted, returned, others), omega (arith, finds.1, granted, returned, returned_since))
 
-  pub used_stands_after_other_entry : (seat : Seat) (place : Place) → UsedStands heap history number seat place → UsedStands heap (history ++ entry ∷ []) number seat place
-  used_stands_after_other_entry seat (places.Making Withdrawing) used = (finds_stays seat.used used.0, used.1)
+  pub used_stands_after_other_entry : (seat : Seat) (point : Point) → UsedStands heap history number seat point → UsedStands heap (history ++ entry ∷ []) number seat point
+  used_stands_after_other_entry seat (points.Making Withdrawing) used = (finds_stays seat.used used.0, used.1)
   used_stands_after_other_entry seat _ used = tt

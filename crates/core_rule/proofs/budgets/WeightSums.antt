@@ -1,12 +1,12 @@
 -- How many spine words the calls of all seats have granted and refused at most.
 use Rattle.std.proofs.Common.{◌≡◌, ℕ, zero, suc, ◌+◌, ◌*◌, ◌<◌, ◌≤◌, inl, inr, sym, subst, arith}
 use Rattle.std.proofs.lemmas.Bool.Decides.{eqb_tells}
-use Rattle.core_rule.proofs.Terms.{Command, Heap, spine_need_of, Withdrawing, Gathering, GivingBack, Refusing, Placing, Listing, Bearing, Place, State, seat_at, sum_upto, IsMachine}
-use Rattle.core_rule.proofs.Terms.{FitsPlace, Seat, of_seats, granted_at, refused_at}
+use Rattle.core_rule.proofs.Terms.{Command, Heap, spine_need_of, Withdrawing, Gathering, GivingBack, Refusing, Placing, Listing, Bearing, Point, State, seat_at, sum_upto, IsMachine}
+use Rattle.core_rule.proofs.Terms.{FitsPoint, Seat, of_seats, granted_at, refused_at}
 use Rattle.heap_model.specs.declared.command.Command.TheVariants as commands
 use Rattle.heap_model.specs.Command.{IsCommand}
-use Rattle.core_machine.specs.declared.place.Making.TheVariants.{Storing}
-use Rattle.core_machine.specs.declared.place.Place.TheVariants as places
+use Rattle.core_machine.specs.declared.point.Making.TheVariants.{Storing}
+use Rattle.core_machine.specs.declared.point.Point.TheVariants as points
 use Rattle.core_machine.proofs.table_lemmas.Free.{sum_upto-none}
 use Rattle.core_rule.proofs.lists.SumLemmas.{sum-suc, sum_plus}
 
@@ -16,15 +16,15 @@ spine_need_within_limit (commands.Array d cells) range = omega (arith, range.1.1
 spine_need_within_limit _ range = omega arith
 
 -- what a call has granted, and refused, is no more than that
-weights_few : (heap : Heap) (seat : Seat) (place : Place) → FitsPlace heap seat place → granted_at seat place + refused_at seat place ≤ 1024
-weights_few heap seat (places.Making Withdrawing) fits = omega (arith, spine_need_within_limit seat.command fits.makes.in_range)
-weights_few heap seat (places.Making Gathering) fits = omega (arith, spine_need_within_limit seat.command fits.makes.in_range)
-weights_few heap seat (places.Making GivingBack) fits = omega (arith, spine_need_within_limit seat.command fits.0.makes.in_range)
-weights_few heap seat (places.Making Refusing) fits = omega (arith, spine_need_within_limit seat.command fits.0.makes.in_range)
-weights_few heap seat (places.Making Placing) fits = omega (arith, spine_need_within_limit seat.command fits.0.0.makes.in_range)
-weights_few heap seat (places.Making Listing) fits = omega (arith, spine_need_within_limit seat.command fits.0.0.makes.in_range)
-weights_few heap seat (places.Making Storing) fits = omega (arith, spine_need_within_limit seat.command fits.0.makes.in_range)
-weights_few heap seat (places.Making Bearing) fits = omega (arith, spine_need_within_limit seat.command fits.0.makes.in_range)
+weights_few : (heap : Heap) (seat : Seat) (point : Point) → FitsPoint heap seat point → granted_at seat point + refused_at seat point ≤ 1024
+weights_few heap seat (points.Making Withdrawing) fits = omega (arith, spine_need_within_limit seat.command fits.makes.in_range)
+weights_few heap seat (points.Making Gathering) fits = omega (arith, spine_need_within_limit seat.command fits.makes.in_range)
+weights_few heap seat (points.Making GivingBack) fits = omega (arith, spine_need_within_limit seat.command fits.0.makes.in_range)
+weights_few heap seat (points.Making Refusing) fits = omega (arith, spine_need_within_limit seat.command fits.0.makes.in_range)
+weights_few heap seat (points.Making Placing) fits = omega (arith, spine_need_within_limit seat.command fits.0.0.makes.in_range)
+weights_few heap seat (points.Making Listing) fits = omega (arith, spine_need_within_limit seat.command fits.0.0.makes.in_range)
+weights_few heap seat (points.Making Storing) fits = omega (arith, spine_need_within_limit seat.command fits.0.makes.in_range)
+weights_few heap seat (points.Making Bearing) fits = omega (arith, spine_need_within_limit seat.command fits.0.makes.in_range)
 weights_few heap seat _ fits = omega arith
 
 -- a sum of numbers of which each is few
@@ -47,19 +47,19 @@ sum_idle (suc n) at f here idle few =
 
 module _ (heap : Heap) (state : State) (machine : IsMachine heap state) where
   abbrev both : ℕ → ℕ
-  both r = granted_at (seat_at state r) (seat_at state r).place + refused_at (seat_at state r) (seat_at state r).place
+  both r = granted_at (seat_at state r) (seat_at state r).point + refused_at (seat_at state r) (seat_at state r).point
 
   few : (r : ℕ) → r < heap.seats → both r ≤ 1024
-  few r below = weights_few heap (seat_at state r) (seat_at state r).place (machine.fit r (subst (λ n. r < n) (sym machine.seated) below)).at_place
+  few r below = weights_few heap (seat_at state r) (seat_at state r).point (machine.fit r (subst (λ n. r < n) (sym machine.seated) below)).at_point
 
   all : sum_upto heap.seats both ≡ of_seats heap state granted_at + of_seats heap state refused_at
-  all = sum_plus heap.seats both (λ r. granted_at (seat_at state r) (seat_at state r).place) (λ r. refused_at (seat_at state r) (seat_at state r).place) (λ r below. omega arith)
+  all = sum_plus heap.seats both (λ r. granted_at (seat_at state r) (seat_at state r).point) (λ r. refused_at (seat_at state r) (seat_at state r).point) (λ r below. omega arith)
 
   -- all seats have at most so many granted and refused
   pub seat_sums_within_limit : of_seats heap state granted_at + of_seats heap state refused_at ≤ 1024 * heap.seats
   seat_sums_within_limit = omega (arith, all, sum_few heap.seats both few)
 
   -- and the others of one that has none
-  pub other_seat_sums_within_limit : (number : ℕ) → number < heap.seats → granted_at (seat_at state number) (seat_at state number).place ≡ 0 → refused_at (seat_at state number) (seat_at state number).place ≡ 0
+  pub other_seat_sums_within_limit : (number : ℕ) → number < heap.seats → granted_at (seat_at state number) (seat_at state number).point ≡ 0 → refused_at (seat_at state number) (seat_at state number).point ≡ 0
       → of_seats heap state granted_at + of_seats heap state refused_at + 1024 ≤ 1024 * heap.seats
   other_seat_sums_within_limit number here none wanted = omega (arith, all, sum_idle heap.seats number both here (omega (arith, none, wanted)) few)

@@ -2,7 +2,7 @@
 use Rattle.std.specs.Int.{bit_at}
 use Rattle.std.proofs.Common.{◌≡◌, ◌≢◌, ◌⊎◌, ℕ, suc, ◌+◌, ◌*◌, ◌/◌, ◌%◌, ◌<◌, ◌≤◌, if◌then◌else◌, nat_lt, inl, inr, max, cond, Bool, true, false, List, length, bit_or, refl, sym, ap, ◌∙◌, subst, arith}
 use Rattle.std.proofs.lemmas.Bool.Decides.{nat_tests, leb_tells}
-use Rattle.core_rule.proofs.Terms.{cycle_phases, marked_at, scanned_at, taken_at, Heap, Control, part_in, mask_of, tally, at, put, table_length, all_taken, word_without_taken}
+use Rattle.core_rule.proofs.Terms.{cycle_phases, marked_at, scanned_at, taken_at, Heap, Control, inside_group, mask_of, tally, at, put, table_length, all_taken, word_without_taken}
 use Rattle.core_rule.proofs.Terms.{birth_bits_of, Seat, Colour, White, Grey, Black, fragment_at, Marks, WordPointsTo, IsMarked, IsBetween, Coloured, marked_bit, scanned_bit, Owner}
 use Rattle.core_rule.proofs.Terms.{Kept, born_bit, IsNear}
 use Rattle.core_machine.specs.seat.MakingMoves.{bears_black_of}
@@ -13,7 +13,7 @@ use Rattle.core_rule.proofs.colours.Births.{birth_colour}
 use Rattle.core_rule.proofs.colours.MarkWords.{marks_after_control_word, word_has_marked_bit, word_has_scanned_bit}
 use Rattle.core_rule.proofs.words.MaskLemmas.{mask_bit_is_tally}
 use Rattle.core_rule.proofs.owners.OwnerLemmas.{born_bit_within_one}
-use Rattle.core_rule.proofs.lists.Parts.{part_in_has_own_group, part_in_has_no_other, part_tallies_make_whole}
+use Rattle.core_rule.proofs.lists.GroupLists.{inside_group_has_own_fragments, inside_group_has_no_other, inside_and_outside_tallies_make_whole}
 
 -- the fragments of the list have this colour, the others their own
 abbrev pub painted : Colour → (ℕ → Colour) → List ℕ → ℕ → Colour
@@ -123,21 +123,21 @@ marks_after_giving heap words colour g fs whole below marks =
     (λ f here. giving_keeps_higher_bits (at heap words (Control g)) (mask_of fs) (mask_is_small fs) (scanned_at f) (omega arith) (omega arith) ∙ word_has_scanned_bit heap words colour colour g 0 whole below marks f here)
     (λ f apart. refl)
 
--- the mask has the bits of the part
-birth_mask : (g f : ℕ) (fs : List ℕ) → f / 16 ≡ g → ((x : ℕ) → tally x fs ≤ 1) → bit_at (mask_of (part_in g fs)) (taken_at f) ≡ tally f (part_in g fs)
+-- the mask has the bits of what is inside the group
+birth_mask : (g f : ℕ) (fs : List ℕ) → f / 16 ≡ g → ((x : ℕ) → tally x fs ≤ 1) → bit_at (mask_of (inside_group g fs)) (taken_at f) ≡ tally f (inside_group g fs)
 birth_mask g f fs here once =
-    let place : 16 * g + f % 16 ≡ f = omega (arith, here) in
-    let bit : bit_at (mask_of (part_in g fs)) (taken_at f) ≡ tally f fs
-    = subst (λ x. bit_at (mask_of (part_in g fs)) (taken_at f) ≡ tally x fs) place (mask_bit_is_tally g (f % 16) fs (omega arith) (once (16 * g + f % 16))) in
-    bit ∙ sym (part_in_has_own_group g f fs here)
+    let position : 16 * g + f % 16 ≡ f = omega (arith, here) in
+    let bit : bit_at (mask_of (inside_group g fs)) (taken_at f) ≡ tally f fs
+    = subst (λ x. bit_at (mask_of (inside_group g fs)) (taken_at f) ≡ tally x fs) position (mask_bit_is_tally g (f % 16) fs (omega arith) (once (16 * g + f % 16))) in
+    bit ∙ sym (inside_group_has_own_fragments g f fs here)
 
 module _ (bit : Colour → ℕ) (none : bit White ≡ 0) (all : bit Black ≡ 1) (colour : ℕ → Colour) (fs : List ℕ) (f : ℕ) where
   -- the bit of the new colour
   bit_painted : (black : Bool) (set found masked : ℕ) → set ≡ max found (cond {A = ℕ} black masked 0) → found ≡ bit (colour f) → masked ≡ tally f fs → tally f fs ≤ 1
       → (1 ≤ tally f fs → colour f ≡ White) → set ≡ bit (painted (birth_colour black) colour fs f)
-  bit_painted black set found masked is was part once white = painted_cases (λ c. set ≡ bit c) (birth_colour black) colour fs f
-      (λ there. let blank : bit (colour f) ≡ 0 = ap bit (white there) ∙ none in by black is (omega (arith, was, blank)) (omega (arith, part, there, once)))
-      (λ away. clear black is (omega (arith, part, away)))
+  bit_painted black set found masked is was tallied once white = painted_cases (λ c. set ≡ bit c) (birth_colour black) colour fs f
+      (λ there. let blank : bit (colour f) ≡ 0 = ap bit (white there) ∙ none in by black is (omega (arith, was, blank)) (omega (arith, tallied, there, once)))
+      (λ away. clear black is (omega (arith, tallied, away)))
     where
       by : (b : Bool) → set ≡ max found (cond {A = ℕ} b masked 0) → found ≡ 0 → masked ≡ 1 → set ≡ bit (birth_colour b)
       by true is zero one = omega (arith, is, zero, one, all)
@@ -149,20 +149,20 @@ module _ (bit : Colour → ℕ) (none : bit White ≡ 0) (all : bit Black ≡ 1)
 
 -- a birth gives its fragments its colour
 pub marks_after_birth : (heap : Heap) (words : List ℕ) (colour : ℕ → Colour) (g : ℕ) (fs : List ℕ) (black : Bool) → length words ≡ table_length heap → g < heap.groups
-    → ((f : ℕ) → tally f fs ≤ 1) → ((f : ℕ) → 1 ≤ tally f (part_in g fs) → colour f ≡ White) → Marks heap words colour
-    → Marks heap (put heap words (Control g) (bit_or (at heap words (Control g)) (birth_bits_of black (mask_of (part_in g fs))))) (painted (birth_colour black) colour (part_in g fs))
+    → ((f : ℕ) → tally f fs ≤ 1) → ((f : ℕ) → 1 ≤ tally f (inside_group g fs) → colour f ≡ White) → Marks heap words colour
+    → Marks heap (put heap words (Control g) (bit_or (at heap words (Control g)) (birth_bits_of black (mask_of (inside_group g fs))))) (painted (birth_colour black) colour (inside_group g fs))
 marks_after_birth heap words colour g fs black whole below once white marks =
     let found : ℕ = at heap words (Control g) in
-    let coloured : ℕ → Colour = painted (birth_colour black) colour (part_in g fs) in
-    let word : ℕ = bit_or found (birth_bits_of black (mask_of (part_in g fs))) in
+    let coloured : ℕ → Colour = painted (birth_colour black) colour (inside_group g fs) in
+    let word : ℕ = bit_or found (birth_bits_of black (mask_of (inside_group g fs))) in
     marks_after_control_word heap words colour coloured g word whole below marks
-    (λ f here. bit_painted marked_bit refl refl colour (part_in g fs) f black (bit_at word (marked_at f)) (bit_at found (marked_at f)) (bit_at (mask_of (part_in g fs)) (taken_at f))
-    (birth_sets_marked_bits found (mask_of (part_in g fs)) (mask_is_small (part_in g fs)) (f % 16) (omega arith) black)
-    (word_has_marked_bit heap words colour colour g 0 whole below marks f here) (birth_mask g f fs here once) (part_once f) (white f))
-    (λ f here. bit_painted scanned_bit refl refl colour (part_in g fs) f black (bit_at word (scanned_at f)) (bit_at found (scanned_at f)) (bit_at (mask_of (part_in g fs)) (taken_at f))
-    (birth_sets_scanned_bits found (mask_of (part_in g fs)) (mask_is_small (part_in g fs)) (f % 16) (omega arith) black)
-    (word_has_scanned_bit heap words colour colour g 0 whole below marks f here) (birth_mask g f fs here once) (part_once f) (white f))
-    (λ f apart. painted_other_keeps_colour (birth_colour black) colour (part_in g fs) f (part_in_has_no_other g f fs apart))
+    (λ f here. bit_painted marked_bit refl refl colour (inside_group g fs) f black (bit_at word (marked_at f)) (bit_at found (marked_at f)) (bit_at (mask_of (inside_group g fs)) (taken_at f))
+    (birth_sets_marked_bits found (mask_of (inside_group g fs)) (mask_is_small (inside_group g fs)) (f % 16) (omega arith) black)
+    (word_has_marked_bit heap words colour colour g 0 whole below marks f here) (birth_mask g f fs here once) (inside_group_once f) (white f))
+    (λ f here. bit_painted scanned_bit refl refl colour (inside_group g fs) f black (bit_at word (scanned_at f)) (bit_at found (scanned_at f)) (bit_at (mask_of (inside_group g fs)) (taken_at f))
+    (birth_sets_scanned_bits found (mask_of (inside_group g fs)) (mask_is_small (inside_group g fs)) (f % 16) (omega arith) black)
+    (word_has_scanned_bit heap words colour colour g 0 whole below marks f here) (birth_mask g f fs here once) (inside_group_once f) (white f))
+    (λ f apart. painted_other_keeps_colour (birth_colour black) colour (inside_group g fs) f (inside_group_has_no_other g f fs apart))
   where
-    part_once : (f : ℕ) → tally f (part_in g fs) ≤ 1
-    part_once f = omega (arith, once f, part_tallies_make_whole g f fs)
+    inside_group_once : (f : ℕ) → tally f (inside_group g fs) ≤ 1
+    inside_group_once f = omega (arith, once f, inside_and_outside_tallies_make_whole g f fs)

@@ -3,7 +3,7 @@ use Rattle.std.specs.Int.{bit_at}
 use Rattle.std.proofs.Common.{◌≡◌, ◌≢◌, ℕ, ◌*◌, ◌/◌, ◌%◌, ◌<◌, Bool, true, false, cond, max, List, bit_or, inl, inr, refl, sym, ap, ◌∙◌, subst, arith}
 use Rattle.std.proofs.lemmas.Bool.Decides.{eqb_tells}
 use Rattle.std.proofs.lemmas.Nat.Bits.{bit_at-lt}
-use Rattle.core_rule.proofs.Terms.{born_at, marked_at, scanned_at, taken_at, Heap, last_answer, black_births, sweep, Control, State, seat_at, last_part, last_group_of, Seat}
+use Rattle.core_rule.proofs.Terms.{born_at, marked_at, scanned_at, taken_at, Heap, last_answer, black_births, sweep, Control, State, seat_at, hand_run, last_group_of, Seat}
 use Rattle.core_rule.proofs.Terms.{mask_of, at, put, birth_bits_of, Book, Colour, White, Grey, Black, IsBetween, HasColour, HasBirthColour, marked_bit, scanned_bit, IsBorn}
 use Rattle.core_rule.proofs.Terms.{control_of, born_bit, Rule}
 use Rattle.core_machine.specs.Moves.{bears_black_of}
@@ -60,7 +60,7 @@ module _ (heap : Heap) (state : State) (book : Book) (rule : Rule heap state boo
     g = last_group_of seat.hand
 
     abbrev bits : ℕ
-    bits = mask_of (last_part seat)
+    bits = mask_of (hand_run seat)
 
     abbrev found : ℕ
     found = at heap words (Control g)
@@ -82,11 +82,11 @@ module _ (heap : Heap) (state : State) (book : Book) (rule : Rule heap state boo
         record {
           marked = ap (λ w. bit_at w (marked_at f)) there
               ∙ coloured_bit marked_bit refl refl _ _ _ black (subst (λ (b : Bool). bit_at born_word (marked_at f) ≡ max (bit_at found (marked_at f)) (cond {A = ℕ} b (bit_at bits (taken_at f)) 0)) is
-              (birth_sets_marked_bits found bits (mask_is_small (last_part seat)) (f % 16) (omega arith) (bears_black_of seat)))
+              (birth_sets_marked_bits found bits (mask_is_small (hand_run seat)) (f % 16) (omega arith) (bears_black_of seat)))
               (word_has_marked_bit heap words book.colour book.colour g 0 rule.machine.table below marks f group ∙ ap marked_bit unmarked) mine;
           scanned = ap (λ w. bit_at w (scanned_at f)) there
               ∙ coloured_bit scanned_bit refl refl _ _ _ black (subst (λ (b : Bool). bit_at born_word (scanned_at f) ≡ max (bit_at found (scanned_at f)) (cond {A = ℕ} b (bit_at bits (taken_at f)) 0)) is
-              (birth_sets_scanned_bits found bits (mask_is_small (last_part seat)) (f % 16) (omega arith) (bears_black_of seat)))
+              (birth_sets_scanned_bits found bits (mask_is_small (hand_run seat)) (f % 16) (omega arith) (bears_black_of seat)))
               (word_has_scanned_bit heap words book.colour book.colour g 0 rule.machine.table below marks f group ∙ ap scanned_bit unmarked) mine;
         }
 

@@ -1,6 +1,6 @@
 -- The collector claims the place of a copy: it fits into the budget, and its words are the collector's.
 use Rattle.std.proofs.Common.{◌≡◌, ℕ, ◌+◌, ◌-◌, ◌%◌, ◌^◌, ◌<◌, ◌≤◌, List, refl, ap, arith}
-use Rattle.heap_words.specs.declared.spot.Spot.{Spot as Place}
+use Rattle.heap_words.specs.declared.spot.Spot.{Spot as Point}
 use Rattle.core_rule.proofs.Terms.{Heap, graph_of, Node, Budget, State, seat_at, at, Book, of_seats, granted_at, placed_at, copying_words, node_at, SpineOwner, Placed, IsToCopy}
 use Rattle.core_rule.proofs.Terms.{Rule, HeapStands, SeatStands, IsWordOf, next_spine}
 use Rattle.core_machine.specs.declared.collector.stage.ArrayAt.{ArrayAt}
@@ -19,11 +19,11 @@ use Rattle.core_rule.proofs.spines.SpineFrames.{spine_is_stored_by_words}
 use Rattle.core_rule.proofs.spines.SpotClaims.{claim_cases, claimed_is_placed, words_claimed, owner_claimed, same_spines_after_spot_claim, spines_left_after_claim, places_stay_after_claim, spines_stand_after_claim}
 use Rattle.core_rule.proofs.words.Addresses.{at-put_apart}
 
-module _ (heap : Heap) (state : State) (book : Book) (rule : Rule heap state book) (array : ArrayAt) (from : Place) (claiming : state.collector.stage ≡ stages.Copying (Claiming array from)) where
+module _ (heap : Heap) (state : State) (book : Book) (rule : Rule heap state book) (array : ArrayAt) (from : Point) (claiming : state.collector.stage ≡ stages.Copying (Claiming array from)) where
   abbrev nodes : ℕ → Node
   nodes = node_at (graph_of heap book.history) book.made
 
-  abbrev spot : Place
+  abbrev spot : Point
   spot = next_spine heap state.words
 
   pub claim_is_to_copy : IsToCopy nodes book.made book.owner book.colour book.spines spot.half array from
@@ -35,8 +35,8 @@ module _ (heap : Heap) (state : State) (book : Book) (rule : Rule heap state boo
       let budgets = rule.space.budgets in
       let level = budgets.leaving (copying_is_leaving heap state book rule (Claiming array from) claiming state.collector.stage) in
       let seats : of_seats heap state (placed_at spot.half) ≤ of_seats heap state granted_at
-      = sum_le heap.seats (λ r. placed_at spot.half (seat_at state r) (seat_at state r).place) (λ r. granted_at (seat_at state r) (seat_at state r).place)
-      (λ r below. placed_within_granted spot.half (seat_at state r) (seat_at state r).place) in
+      = sum_le heap.seats (λ r. placed_at spot.half (seat_at state r) (seat_at state r).point) (λ r. granted_at (seat_at state r) (seat_at state r).point)
+      (λ r below. placed_within_granted spot.half (seat_at state r) (seat_at state r).point) in
       let kept = copied_words_within_kept nodes book.spines spot.half heap state.words book.made book.owner book.colour book.fragments rule.heap_stands.control_words array from claim_is_to_copy in
       let none : copying_words state.collector.stage ≡ 0 = ap copying_words claiming in
       omega (arith, level, seats, kept, none, budgets.low)
@@ -65,7 +65,7 @@ module _ (heap : Heap) (state : State) (book : Book) (rule : Rule heap state boo
   has_copy_after_claim = record {
     placed = claimed_is_placed heap.seats spot array.words book.spine_owner;
     own = λ half offset j. claim_cases heap.seats spot array.words book.spine_owner (λ o. o ≡ Placed heap.seats j → (j < array.words) × IsWordOf spot half offset j) half offset
-        (λ is e. let place : offset - spot.offset ≡ j = cc in (omega (arith, place, is.from, is.upto), record { half_is = is.half_is; offset_is = omega (arith, place, is.from) }))
+        (λ is e. let position : offset - spot.offset ≡ j = cc in (omega (arith, position, is.from, is.upto), record { half_is = is.half_is; offset_is = omega (arith, position, is.from) }))
         (λ away e. absurd (no_word_is_collectors heap state book rule (Claiming array from) claiming free half offset j e));
     copied = λ j less. absurd (omega (arith, less));
   }

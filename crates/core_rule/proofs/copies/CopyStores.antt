@@ -134,7 +134,7 @@ module _ (heap : Heap) (state : State) (book : Book) (rule : Rule heap state boo
   seat_listed r below placed j less =
       let seat = seat_at state r in
       let hand = (rule.seats_stand r below).own.spine in
-      let few : seat.listed ≤ spine_need seat = listed_within_need heap seat seat.place (seat_fits rule r below).at_place placed in
+      let few : seat.listed ≤ spine_need seat = listed_within_need heap seat seat.point (seat_fits rule r below).at_point placed in
       placed_written heap state.words book.spine_owner heap.seats copy.index copy.to.half offset word mine small seat.spine.half (seat.spine.offset + j) r j (λ e. omega (arith, e, below))
       (hand.placed placed j (omega (arith, less, few))) ∙ hand.stored placed j less
 
@@ -166,11 +166,11 @@ module _ (heap : Heap) (state : State) (book : Book) (rule : Rule heap state boo
         let within : j < copy.array.words = omega (arith, less, before, fits.more) in
         let there = has.placed j within in
         others_written heap state.words book.spine_owner heap.seats copy.index copy.to.half offset word mine small copy.to.half (copy.to.offset + j) (λ none. absurd (cc (there, none)))
-        (λ own. before (place_of there own)) ∙ has.copied j (omega (arith, less, before)) ∙ sym (from_same j within)
+        (λ own. before (position_of there own)) ∙ has.copied j (omega (arith, less, before)) ∙ sym (from_same j within)
   ]
     where
-      place_of : {o : SpineOwner} {j k : ℕ} → o ≡ Placed heap.seats j → o ≡ Placed heap.seats k → j ≡ k
-      place_of a b = cc
+      position_of : {o : SpineOwner} {j k : ℕ} → o ≡ Placed heap.seats j → o ≡ Placed heap.seats k → j ≡ k
+      position_of a b = cc
 
   pub has_copy_after_store : HasCopy heap now book.spine_owner (record copy { index = copy.index + 1 })
   has_copy_after_store = record { placed = has.placed; own = has.own; copied = copied_next }

@@ -73,7 +73,7 @@ pub seen_stage_is_free : (heap : Heap) (phase group marked : ℕ) (o : Option �
 seen_stage_is_free heap phase group marked = seen_cases heap phase group marked IsFree
     (λ more. record { of_copying = tt; few = tt; none = refl; no_words = refl })
     (λ last. record { of_copying = tt; few = tt; none = refl; no_words = refl })
-    (λ place. record { of_copying = tt; few = tt; none = refl; no_words = refl })
+    (λ position. record { of_copying = tt; few = tt; none = refl; no_words = refl })
 
 -- what is asked of the stage to which a turn leads that leaves these words, and places so many more spine words
 pub record LeadsBy (heap : Heap) (state : State) (book : Book) (words : List ℕ) (more : ℕ) (stage : Stage) : Type 0 where

@@ -9,18 +9,18 @@ use Rattle.heap_words.specs.declared.kind.Kind.TheVariants as kinds
 use Rattle.heap_words.specs.declared.name.Name.{Name}
 use Rattle.heap_words.specs.declared.spot.Spot.{Spot}
 use Rattle.heap_words.specs.Cell.{cell_of}
-use Rattle.core_rule.proofs.Terms.{Command, Heap, array_words, graph_of, Graph, Node, Word, State, seat_at, Listing, Bearing, Place, MakesObject, IsArrayCall, Fits, FitsPlace}
+use Rattle.core_rule.proofs.Terms.{Command, Heap, array_words, graph_of, Graph, Node, Word, State, seat_at, Listing, Bearing, Point, MakesObject, IsArrayCall, Fits, FitsPoint}
 use Rattle.core_rule.proofs.Terms.{HasBody, SpineIsListed, newborn_word, newborn_word_of, next_name, Seat, array_length_in, array_length_of, is_fixed, is_meta, tally, at}
 use Rattle.core_rule.proofs.Terms.{link_after, record_word_of, Book, fragment_at, id_at, object_head, IsMarked, AfterMarking, name_of, node_at, field_word, IsKept, Holding, Owner}
 use Rattle.core_rule.proofs.Terms.{Free, Taken, Borne, Kept, Dead, holds_bit, born_bit, HasPlace, BeginsArray, Rule}
 use Rattle.heap_model.specs.declared.command.Command.TheVariants as commands
 use Rattle.heap_model.specs.Command.{IsCommand}
-use Rattle.core_machine.specs.declared.place.Making.TheVariants.{Storing}
-use Rattle.core_machine.specs.declared.place.Place.TheVariants as places
+use Rattle.core_machine.specs.declared.point.Making.TheVariants.{Storing}
+use Rattle.core_machine.specs.declared.point.Point.TheVariants as points
 use Rattle.core_machine.proofs.table_lemmas.CellWords.{cell_of-cell_word}
 use Rattle.core_rule.proofs.entries.AtRest.{seat_fits}
 use Rattle.core_rule.proofs.held.BodyWords.{bearing_has_stored_all}
-use Rattle.core_rule.proofs.lists.Members.{place_of, element_stands_at_place}
+use Rattle.core_rule.proofs.lists.Members.{position_of, element_stands_at_position}
 use Rattle.core_rule.proofs.lists.Tallies.{one_at_same_is_one}
 use Rattle.core_rule.proofs.marking.ObjectEdges.{found_cases, cell_is_no_meta, fragment_is_small}
 use Rattle.core_rule.proofs.objects.LastBirth.{all_words_are_stored}
@@ -86,23 +86,23 @@ module _ (heap : Heap) (state : State) (book : Book) (rule : Rule heap state boo
     fits : Fits heap seat
     fits = seat_fits rule number there.0
 
-    born : HasBody seat × (seat.stored ≡ 4 * length seat.body) × SpineIsListed seat.command seat.spine seat.listed × (IsArrayCall seat.command → HasPlace seat seat.place)
-    born = bearing_has_stored_all heap state book rule number f bears seat.place fits.at_place
+    born : HasBody seat × (seat.stored ≡ 4 * length seat.body) × SpineIsListed seat.command seat.spine seat.listed × (IsArrayCall seat.command → HasPlace seat seat.point)
+    born = bearing_has_stored_all heap state book rule number f bears seat.point fits.at_point
 
     -- while an array has a borne fragment something of it is in the hand
-    hand_some : (place : Place) → FitsPlace heap seat place → HasPlace seat place → 0 < length seat.hand
-    hand_some (places.Making Listing) fits has = absurd (omega (arith, fits.0.2.none_stored, born.1, (element_stands_at_place f seat.body there.1).0))
-    hand_some (places.Making Storing) fits has = absurd (omega (arith, fits.2, born.1))
-    hand_some (places.Making Bearing) fits has = fits.1
+    hand_some : (point : Point) → FitsPoint heap seat point → HasPlace seat point → 0 < length seat.hand
+    hand_some (points.Making Listing) fits has = absurd (omega (arith, fits.0.2.none_stored, born.1, (element_stands_at_position f seat.body there.1).0))
+    hand_some (points.Making Storing) fits has = absurd (omega (arith, fits.2, born.1))
+    hand_some (points.Making Bearing) fits has = fits.1
     hand_some _ fits has = absurd has
 
     -- so that its first fragment isn't borne
-    behind_first : IsArrayCall seat.command → place_of f seat.body ≢ 0
+    behind_first : IsArrayCall seat.command → position_of f seat.body ≢ 0
     behind_first array first =
         let own = (rule.seats_stand number there.0).own in
         let order = own.together.chosen (λ none. absurd (let all : tally f seat.body ≡ 0 = rw none refl in omega (arith, all, there.1))) in
-        let at_first : get_or (seat.hand ++ order.born) 0 0 ≡ f = ap (λ fs. get_or fs 0 0) (sym order.front) ∙ ap (get_or' seat.body) (sym first) ∙ (element_stands_at_place f seat.body there.1).1 in
-        front_held book.owner number seat.reserve seat.hand seat.body order.born own.holding (hand_some seat.place fits.at_place (born.3 array)) (ap book.owner at_first ∙ bears)
+        let at_first : get_or (seat.hand ++ order.born) 0 0 ≡ f = ap (λ fs. get_or fs 0 0) (sym order.front) ∙ ap (get_or' seat.body) (sym first) ∙ (element_stands_at_position f seat.body there.1).1 in
+        front_held book.owner number seat.reserve seat.hand seat.body order.born own.holding (hand_some seat.point fits.at_point (born.3 array)) (ap book.owner at_first ∙ bears)
       where
         get_or' : List ℕ → ℕ → ℕ
         get_or' fs k = get_or fs k 0
@@ -110,12 +110,12 @@ module _ (heap : Heap) (state : State) (book : Book) (rule : Rule heap state boo
     -- and no borne fragment begins with an array's meta
     pub borne_tells_no_array_length : array_length_of word ≡ None
     borne_tells_no_array_length =
-        let its = element_stands_at_place f seat.body there.1 in
-        let found : at heap state.words (Word (fragment_at seat.body (place_of f seat.body)) 0) ≡ newborn_word_of number seat (place_of f seat.body) 0
-        = all_words_are_stored heap state.words seat.body (newborn_word_of number seat) seat.stored born.1 (rule.seats_stand number there.0).own.stored (place_of f seat.body) 0 its.0 (omega arith) in
+        let its = element_stands_at_position f seat.body there.1 in
+        let found : at heap state.words (Word (fragment_at seat.body (position_of f seat.body)) 0) ≡ newborn_word_of number seat (position_of f seat.body) 0
+        = all_words_are_stored heap state.words seat.body (newborn_word_of number seat) seat.stored born.1 (rule.seats_stand number there.0).own.stored (position_of f seat.body) 0 its.0 (omega arith) in
         ap (λ x. array_length_of (at heap state.words (Word x 0))) (sym its.1) ∙ ap array_length_of found
         ∙ newborn_no_length seat.body (λ i below. let inside : get_or seat.body i 0 < 16 * heap.groups = fits.hand.body_within i 0 below in omega (arith, inside, rule.machine.limits.groups_fit))
-        seat.command (next_name number seat) seat.spine (place_of f seat.body) born.0.makes.an_object born.0.makes.in_range behind_first
+        seat.command (next_name number seat) seat.spine (position_of f seat.body) born.0.makes.an_object born.0.makes.in_range behind_first
 
   module _ (i k : ℕ) (kept : book.owner f ≡ Kept i k) where
     abbrev g : Graph

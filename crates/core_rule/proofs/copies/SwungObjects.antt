@@ -49,10 +49,10 @@ module _ (heap : Heap) (words : List ℕ) (table : length words ≡ table_length
   }
     where
       apart_from : (k : ℕ) → owner (fragment_at (fragments i) k) ≡ Kept i k → fragment_at (fragments i) k ≡ s → k ≡ 0
-      apart_from k owned same = place_of (sym (ap owner same) ∙ owned) kept
+      apart_from k owned same = position_of (sym (ap owner same) ∙ owned) kept
         where
-          place_of : owner s ≡ Kept i k → owner s ≡ Kept i 0 → k ≡ 0
-          place_of a b = cc
+          position_of : owner s ≡ Kept i k → owner s ≡ Kept i 0 → k ≡ 0
+          position_of a b = cc
 
       stored : (k part : ℕ) → k < length (fragments i) → part < 4
           → at heap now (Word (fragment_at (fragments i) k) part) ≡ object_word (object_head made fragments) (name_of (id_at made i)) (node_at g made i) to (fragments i) k part

@@ -1,7 +1,7 @@
 -- The heap and each seat stand once an array has swung: a call that has loaded its old place reads a replica that the array has left.
 use Rattle.std.proofs.Common.{◌≡◌, ◌≢◌, ◌⊎◌, ℕ, ◌+◌, ◌%◌, ◌<◌, false, List, inl, inr, refl, sym, ap, ◌∙◌, subst, arith}
 use Rattle.std.proofs.lemmas.Bool.{cases_eq}
-use Rattle.core_rule.proofs.Terms.{cycle_phases, spot_word, Entry, Heap, IsLegal, graph_of, phase, last_answer, has_left, Graph, graph_seat, Place, Word, Control, State, seat_at}
+use Rattle.core_rule.proofs.Terms.{cycle_phases, spot_word, Entry, Heap, IsLegal, graph_of, phase, last_answer, has_left, Graph, graph_seat, Point, Word, Control, State, seat_at}
 use Rattle.core_rule.proofs.Terms.{Seat, at, Book, IsBetween, HeapInCycle, SeatInCycle, node_at, AddressStands, HasLoaded, IsLeftReplica, Rule, HeapStands, SeatStands}
 use Rattle.heap_model.specs.PhasePlan.{copying as copying_phase}
 use Rattle.heap_words.specs.declared.spot.Spot.{Spot}
@@ -9,7 +9,7 @@ use Rattle.heap_model.proofs.Histories.{total-more}
 use Rattle.core_machine.specs.declared.collector.stage.Copying.TheVariants.{Swinging}
 use Rattle.core_machine.specs.declared.collector.stage.SpineCopy.{SpineCopy}
 use Rattle.core_machine.specs.declared.collector.stage.Stage.TheVariants as stages
-use Rattle.core_machine.specs.declared.place.Place.TheVariants as places
+use Rattle.core_machine.specs.declared.point.Point.TheVariants as points
 use Rattle.core_machine.specs.declared.table.address.Address.TheVariants.{Answer, Phase}
 use Rattle.core_rule.proofs.colours.MarkWords.{marks_where_controls_same}
 use Rattle.core_rule.proofs.copies.CopyingStages.{phase_is_copying}
@@ -88,7 +88,7 @@ module _ (heap : Heap) (state : State) (book : Book) (rule : Rule heap state boo
     seat = seat_at state r
 
     -- a call on its way has answered the phase of copying, or the one before
-    is_late : seat.place ≢ places.Idle → IsBetween 3 4 seat.answered
+    is_late : seat.point ≢ points.Idle → IsBetween 3 4 seat.answered
     is_late busy =
         let agrees = (rule.seats_stand r below).cycle.answers_told in
         let fourth : phase book.history % cycle_phases ≡ copying_phase = ap (λ p. p % cycle_phases) (sym rule.collector_stands.phase_told) ∙ phase_is_copying heap state book rule (Swinging copy) swinging in
@@ -109,7 +109,7 @@ module _ (heap : Heap) (state : State) (book : Book) (rule : Rule heap state boo
     }
 
     -- the place where the array stood is left then
-    place_left : seat.place ≢ places.Idle → seat.address ≡ book.spines n → IsReplica n seat.address
+    place_left : seat.point ≢ points.Idle → seat.address ≡ book.spines n → IsReplica n seat.address
     place_left busy there = subst (IsReplica n) (sym there) record {
       late = is_late busy;
       left = λ k less. left_word_is_gone heap.seats n (book.spine_owner (book.spines n).half ((book.spines n).offset + k)) k
@@ -117,12 +117,12 @@ module _ (heap : Heap) (state : State) (book : Book) (rule : Rule heap state boo
       listed = λ k less. same_spines (book.spines n).half ((book.spines n).offset + k) ∙ swung_spine_names_payload heap state book rule copy swinging k less;
     }
 
-    abbrev AddressAt : Place → Type 0
-    AddressAt place = AddressStands heap words (node_at (graph_of heap book.history) book.made) book.owner book.fragments later.spines later.spine_owner seat place
+    abbrev AddressAt : Point → Type 0
+    AddressAt point = AddressStands heap words (node_at (graph_of heap book.history) book.made) book.owner book.fragments later.spines later.spine_owner seat point
 
-    address_swung : (place : Place) → seat.place ≡ place
-        → AddressStands heap state.words (node_at (graph_of heap book.history) book.made) book.owner book.fragments book.spines book.spine_owner seat place → AddressAt place
-    address_swung place is = while_loaded_goes_on place (λ has reads j f calls kept an_array. elim (reads j f calls kept an_array) as (λ _. (seat.address ≡ later.spines j) ⊎ IsReplica j seat.address) [
+    address_swung : (point : Point) → seat.point ≡ point
+        → AddressStands heap state.words (node_at (graph_of heap book.history) book.made) book.owner book.fragments book.spines book.spine_owner seat point → AddressAt point
+    address_swung point is = while_loaded_goes_on point (λ has reads j f calls kept an_array. elim (reads j f calls kept an_array) as (λ _. (seat.address ≡ later.spines j) ⊎ IsReplica j seat.address) [
       | inr replica ↦ inr (replica_stays j replica)
       | inl there ↦ elim (cases_eq j n) as (λ _. (seat.address ≡ later.spines j) ⊎ IsReplica j seat.address) [
         | inl same ↦ inr (subst (λ m. IsReplica m seat.address) (sym same) (place_left (λ idle. subst HasLoaded (sym is ∙ idle) has) (there ∙ ap book.spines same)))
@@ -146,11 +146,11 @@ module _ (heap : Heap) (state : State) (book : Book) (rule : Rule heap state boo
           told = seat_told_same_after_other r book.history told refl;
           kept = rw graph (kept_stays_with_owners (graph_of heap book.history) book.made book.owner book.owner book.fragments (same_kept_of_itself book.owner));
           hand = same_hand_of_itself r book.owner;
-          stored = is_stored_after_store heap state.words book.owner r seat f 2 (spot_word copy.to) stands.own.holding (stored_within_body heap seat seat.place fits.at_place) (omega arith)
+          stored = is_stored_after_store heap state.words book.owner r seat f 2 (spot_word copy.to) stands.own.holding (stored_within_body heap seat seat.point fits.at_point) (omega arith)
               (λ own. own_is_not_kept r n 0 (book.owner f) own (swung_is_to_copy heap state book rule copy swinging).found.begins.kept) stands.own.stored;
           spines = parties_left r below;
           spine_stored = spine_is_stored_by_words heap state.words words seat same_spines stands.own.spine.stored;
-          address = rw graph (address_swung seat.place refl stands.names.address);
+          address = rw graph (address_swung seat.point refl stands.names.address);
           gathers = gathers_right_after_entry heap book.owner r book.history (book.begun r) told seat.cursor seat.tried seat.given stands.told.began.earlier stands.told.gathers;
           cycle = seat_in_cycle_after_other heap words book.owner book.colour book.history told refl r seat cycle_seat refl;
         } stands

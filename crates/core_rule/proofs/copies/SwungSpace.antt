@@ -10,7 +10,7 @@ use Rattle.core_rule.proofs.Terms.{fragment_at, id_at, object_number, BudgetsSta
 use Rattle.core_rule.proofs.Terms.{returning, HalvesStand, AwaitsCopy, IsKept, node_at, Owner, Kept, Rule, SpaceStands, next_spine}
 use Rattle.heap_model.specs.account.Sweep.{HasSwung}
 use Rattle.heap_model.proofs.account_lemmas.Windows.{after_last-no}
-use Rattle.core_machine.specs.collector.Copying.{next_place_of, visit_on}
+use Rattle.core_machine.specs.collector.Copying.{next_position_of, visit_on}
 use Rattle.core_machine.specs.declared.collector.stage.Copying.TheVariants.{Swinging}
 use Rattle.core_machine.specs.declared.collector.stage.SpineCopy.{SpineCopy}
 use Rattle.core_machine.specs.declared.collector.stage.Stage.TheVariants as stages
@@ -20,7 +20,7 @@ use Rattle.core_rule.proofs.copies.BegunArrays.{begun_by_one_object}
 use Rattle.core_rule.proofs.copies.CopyingStages.{IsFree, phase_is_copying, copying_is_leaving, next_spine_in_next_half, copying_half_is_next, copying_returns_none, sweep_counts_while_copying, seen_stage_is_free}
 use Rattle.core_rule.proofs.copies.SwungBook.{swung_is_to_copy, copy_in_next_half, i, s, swung_array_is_kept, swung_first_within_heap, now, places, entry, book_swung, graph_same_after_swing, spot_same_after_swing}
 use Rattle.core_rule.proofs.copies.SwungWords.{swung_word, swung_spine_is_copy, other_spine_stays_at_swing, placed_before_swing}
-use Rattle.core_rule.proofs.copies.Visits.{awaits_copy_after_seen, to_visit_at_next_place}
+use Rattle.core_rule.proofs.copies.Visits.{awaits_copy_after_seen, to_visit_at_next_position}
 use Rattle.core_rule.proofs.copies.VisitsOn.{arrays_await_visit, copying_stands_after_seen}
 use Rattle.core_rule.proofs.entries.ToldSpines.{returned_in_cycle_stays}
 use Rattle.core_rule.proofs.budgets.BudgetFrames.{granted_words_stay, returned_words_stay}
@@ -126,7 +126,7 @@ module _ (heap : Heap) (state : State) (book : Book) (rule : Rule heap state boo
   nodes_same = ap (λ (g : Graph). node_at g book.made) (graph_same_after_swing heap state book rule copy swinging)
 
   pub swung_stage_is_free : IsFree stage
-  swung_stage_is_free = seen_stage_is_free heap state.collector.phase visit.group visit.marked (next_place_of visit.marked (visit.place + 1))
+  swung_stage_is_free = seen_stage_is_free heap state.collector.phase visit.group visit.marked (next_position_of visit.marked (visit.position + 1))
 
   -- the granted words stand
   pub budgets_swung : (log : List Entry) → BudgetsStand heap (turned log) later
@@ -164,8 +164,8 @@ module _ (heap : Heap) (state : State) (book : Book) (rule : Rule heap state boo
       | inl here ↦ inl (ap (λ (p : Spot). p.half) (other_spine_stays_at_swing n copy.to book.spines j other) ∙ here)
       | inr to ↦
           let head : ℕ = fragment_at (book.fragments j) 0 in
-          inr (awaits_copy_after_seen heap state.collector.phase visit.group visit.marked (visit.place + 1) head (owned_within_heap heap state.words book.owner head j 0 rule.heap_stands.control_words kept)
-          (to_visit_at_next_place visit head (λ same. other (begun_by_one_object heap state book rule f copy.array.words (swung_is_to_copy heap state book rule copy swinging).found.begins j same kept)) to))
+          inr (awaits_copy_after_seen heap state.collector.phase visit.group visit.marked (visit.position + 1) head (owned_within_heap heap state.words book.owner head j 0 rule.heap_stands.control_words kept)
+          (to_visit_at_next_position visit head (λ same. other (begun_by_one_object heap state book rule f copy.array.words (swung_is_to_copy heap state book rule copy swinging).found.begins j same kept)) to))
     ]
   ]
 
@@ -201,7 +201,7 @@ module _ (heap : Heap) (state : State) (book : Book) (rule : Rule heap state boo
         ]);
         swung = rw next (λ copies j below kept swung. halves_have j below kept swung);
         copies = rw (graph, next) (copying_stands_after_seen heap nodes book.made book.owner book.colour book.fragments spines half state.collector.phase visit (swung_is_to_copy heap state book rule copy swinging).found.marked
-            (next_place_of visit.marked (visit.place + 1)));
+            (next_position_of visit.marked (visit.position + 1)));
         copy = copy_in_hand_where_none heap words later.spine_owner stage swung_stage_is_free.none (λ h offset j is. (placed_before_swing heap.seats n (book.spine_owner h offset) heap.seats j is).1 refl);
       }
 

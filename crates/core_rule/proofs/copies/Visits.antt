@@ -3,14 +3,14 @@ use Rattle.std.specs.Int.{bit_at}
 use Rattle.std.proofs.Common.{◌≡◌, ◌≢◌, ℕ, suc, ◌+◌, ◌*◌, ◌/◌, ◌%◌, ◌<◌, ◌≤◌, List, length, Option, Some, None, inl, inr, refl, sym, ap, ◌∙◌, arith}
 use Rattle.std.proofs.lemmas.Bool.Decides.{leb_tells}
 use Rattle.core_rule.proofs.Terms.{taken_at, Heap, Stage, Control, at, table_length, Colour, White, Grey, Black, Marks, IsMarked, marked_bit, IsToVisit, AwaitsCopy, VisitIsMarked}
-use Rattle.core_machine.specs.collector.Copying.{marked_bits_of, next_place_of, after_visited, after_seen}
+use Rattle.core_machine.specs.collector.Copying.{marked_bits_of, next_position_of, after_visited, after_seen}
 use Rattle.core_machine.specs.collector.CopyingTurns.{visited}
 use Rattle.core_machine.specs.declared.collector.stage.Copying.TheVariants as copying
 use Rattle.core_machine.specs.declared.collector.stage.Stage.TheVariants as stages
 use Rattle.core_machine.specs.declared.collector.stage.Visit.{Visit}
-use Rattle.core_machine.proofs.table_lemmas.DeadBits.{no_place_no_bit}
+use Rattle.core_machine.proofs.table_lemmas.DeadBits.{no_position_no_bit}
 use Rattle.core_rule.proofs.colours.MarkWords.{word_has_marked_bit}
-use Rattle.core_rule.proofs.words.MarkedPlaces.{marked_bit_is_words_bit, marked_place_within_group, none_marked_before_next}
+use Rattle.core_rule.proofs.words.MarkedPositions.{marked_bit_is_words_bit, marked_position_within_group, none_marked_before_next}
 
 -- what is marked has its bit, and only that
 marked_one : (c : Colour) → c ≢ White → marked_bit c ≡ 1
@@ -35,11 +35,11 @@ module _ (heap : Heap) (words : List ℕ) (colour : ℕ → Colour) (group : ℕ
   marked_has_visit_bit f here marked = bit_told f here ∙ marked_one (colour f) marked
 
   -- and each bit is one's
-  pub visit_bits_are_marked : (place : ℕ) → VisitIsMarked colour (record { group = group; marked = bits; place = place })
-  visit_bits_are_marked first place one =
-      let within : place < 16 = marked_place_within_group (at heap words (Control group)) place one in
-      let rest : (16 * group + place) % 16 ≡ place = omega (arith, within) in
-      one_marked (colour (16 * group + place)) (sym (bit_told (16 * group + place) (omega (arith, within))) ∙ ap (bit_at bits) rest ∙ one)
+  pub visit_bits_are_marked : (position : ℕ) → VisitIsMarked colour (record { group = group; marked = bits; position = position })
+  visit_bits_are_marked first position one =
+      let within : position < 16 = marked_position_within_group (at heap words (Control group)) position one in
+      let rest : (16 * group + position) % 16 ≡ position = omega (arith, within) in
+      one_marked (colour (16 * group + position)) (sym (bit_told (16 * group + position) (omega (arith, within))) ∙ ap (bit_at bits) rest ∙ one)
 
 module _ (heap : Heap) (phase group : ℕ) where
   -- where the next group's turn comes, or the phase is done
@@ -56,31 +56,31 @@ module _ (heap : Heap) (phase group : ℕ) where
   module _ (marked : ℕ) where
     -- what comes after a fragment was seen
     pub seen_cases : (P : Stage → Type 0) → (group + 1 < heap.groups → P (stages.Copying (copying.Visiting (group + 1)))) → (heap.groups ≤ group + 1 → P stages.Advancing)
-        → ((place : ℕ) → P (stages.Copying (copying.Inspecting (record { group = group; marked = marked; place = place })))) → (o : Option ℕ) → P (after_seen heap group marked o)
+        → ((position : ℕ) → P (stages.Copying (copying.Inspecting (record { group = group; marked = marked; position = position })))) → (o : Option ℕ) → P (after_seen heap group marked o)
     seen_cases P on end next None = visited_cases P on end
-    seen_cases P on end next (Some place) = next place
+    seen_cases P on end next (Some position) = next position
 
-    -- what was yet to be visited from a place on is so where the visit goes on
-    pub awaits_copy_after_seen : (from f : ℕ) → f < 16 * heap.groups → IsToVisit (record { group = group; marked = marked; place = from }) f → AwaitsCopy phase (after_seen heap group marked (next_place_of marked from)) f
-    awaits_copy_after_seen from f below (inl later) = seen_later (next_place_of marked from)
+    -- what was yet to be visited from a position on is so where the visit goes on
+    pub awaits_copy_after_seen : (from f : ℕ) → f < 16 * heap.groups → IsToVisit (record { group = group; marked = marked; position = from }) f → AwaitsCopy phase (after_seen heap group marked (next_position_of marked from)) f
+    awaits_copy_after_seen from f below (inl later) = seen_later (next_position_of marked from)
       where
         seen_later : (o : Option ℕ) → AwaitsCopy phase (after_seen heap group marked o) f
         seen_later None = later_awaits f below later
-        seen_later (Some place) = inl later
-    awaits_copy_after_seen from f below (inr here) = seen_here (next_place_of marked from) refl
+        seen_later (Some position) = inl later
+    awaits_copy_after_seen from f below (inr here) = seen_here (next_position_of marked from) refl
       where
-        seen_here : (o : Option ℕ) → next_place_of marked from ≡ o → AwaitsCopy phase (after_seen heap group marked o) f
-        seen_here None none = absurd (omega (arith, no_place_no_bit marked from (f % 16) none here.1 (omega arith), here.2))
-        seen_here (Some place) is = inr (
+        seen_here : (o : Option ℕ) → next_position_of marked from ≡ o → AwaitsCopy phase (after_seen heap group marked o) f
+        seen_here None none = absurd (omega (arith, no_position_no_bit marked from (f % 16) none here.1 (omega arith), here.2))
+        seen_here (Some position) is = inr (
           here.0,
-          (elim (leb_tells place (f % 16)) as (λ _. place ≤ f % 16) [
+          (elim (leb_tells position (f % 16)) as (λ _. position ≤ f % 16) [
             | inl from_ ↦ from_.1
-            | inr before ↦ absurd (omega (arith, none_marked_before_next marked from place (f % 16) is here.1 (omega (arith, before.1)), here.2))
+            | inr before ↦ absurd (omega (arith, none_marked_before_next marked from position (f % 16) is here.1 (omega (arith, before.1)), here.2))
           ]),
           here.2,
         )
 
--- what is yet to be visited and isn't where the visit stands is so from the next place on
-pub to_visit_at_next_place : (visit : Visit) (f : ℕ) → f ≢ visited visit → IsToVisit visit f → IsToVisit (record visit { place = visit.place + 1 }) f
-to_visit_at_next_place visit f other (inl later) = inl later
-to_visit_at_next_place visit f other (inr here) = inr (here.0, omega (arith, here.0, here.1, λ (same : f % 16 ≡ visit.place). other (omega (arith, here.0, same))), here.2)
+-- what is yet to be visited and isn't where the visit stands is so from the next position on
+pub to_visit_at_next_position : (visit : Visit) (f : ℕ) → f ≢ visited visit → IsToVisit visit f → IsToVisit (record visit { position = visit.position + 1 }) f
+to_visit_at_next_position visit f other (inl later) = inl later
+to_visit_at_next_position visit f other (inr here) = inr (here.0, omega (arith, here.0, here.1, λ (same : f % 16 ≡ visit.position). other (omega (arith, here.0, same))), here.2)

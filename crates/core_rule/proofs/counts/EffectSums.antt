@@ -9,17 +9,17 @@ use Rattle.heap_model.specs.account.Refusals.{given_up}
 use Rattle.heap_model.proofs.Histories.{total-more}
 use Rattle.core_rule.proofs.entries.Others.{sum_grows_by_entry}
 
-total_but-more : (s : ℕ) (part : Effect → ℕ) (history : List Entry) (entry : Entry)
-    → total_but s part (history ++ entry ∷ []) ≡ total_but s part history + (if is_of s entry then 0 else part (effect_of entry))
-total_but-more s part history entry = sum_grows_by_entry (λ e. if is_of s e then 0 else part (effect_of e)) history entry
+total_but-more : (s : ℕ) (summand : Effect → ℕ) (history : List Entry) (entry : Entry)
+    → total_but s summand (history ++ entry ∷ []) ≡ total_but s summand history + (if is_of s entry then 0 else summand (effect_of entry))
+total_but-more s summand history entry = sum_grows_by_entry (λ e. if is_of s e then 0 else summand (effect_of e)) history entry
 
 -- a seat's own entry adds nothing to what the others did, and another's adds its effect
-pub total_but_stays_by_own : (s : ℕ) (part : Effect → ℕ) (history : List Entry) (entry : Entry) → is_of s entry ≡ true → total_but s part (history ++ entry ∷ []) ≡ total_but s part history
-total_but_stays_by_own s part history entry own = rw (total_but-more s part history entry, own) (omega arith)
+pub total_but_stays_by_own : (s : ℕ) (summand : Effect → ℕ) (history : List Entry) (entry : Entry) → is_of s entry ≡ true → total_but s summand (history ++ entry ∷ []) ≡ total_but s summand history
+total_but_stays_by_own s summand history entry own = rw (total_but-more s summand history entry, own) (omega arith)
 
-pub total_but_grows_by_other : (s : ℕ) (part : Effect → ℕ) (history : List Entry) (entry : Entry) → is_of s entry ≡ false
-    → total_but s part (history ++ entry ∷ []) ≡ total_but s part history + part (effect_of entry)
-total_but_grows_by_other s part history entry other = rw (total_but-more s part history entry, other) refl
+pub total_but_grows_by_other : (s : ℕ) (summand : Effect → ℕ) (history : List Entry) (entry : Entry) → is_of s entry ≡ false
+    → total_but s summand (history ++ entry ∷ []) ≡ total_but s summand history + summand (effect_of entry)
+total_but_grows_by_other s summand history entry other = rw (total_but-more s summand history entry, other) refl
 
 module _ (history : List Entry) (number k : ℕ) where
   -- nothing is given up where a seat takes

@@ -26,8 +26,8 @@ module _ (heap : Heap) (words : List ℕ) (owner : ℕ → Owner) (bits : Bits h
   pub control_bit_is_taken_bit : (g j : ℕ) → g < heap.groups → j < 16 → bit_at (at heap words (Control g)) j ≡ taken_bit (owner (16 * g + j))
   control_bit_is_taken_bit g j below less =
       let group : (16 * g + j) / 16 ≡ g = omega arith in
-      let place : (16 * g + j) % 16 ≡ j = omega arith in
-      rw (group, place) at (bits.taken (16 * g + j) (omega arith))
+      let position : (16 * g + j) % 16 ≡ j = omega arith in
+      rw (group, position) at (bits.taken (16 * g + j) (omega arith))
 
   -- what is clear in a group's word is what is free in the group
   clear_free : (g : ℕ) → g < heap.groups → length (clear_in g (at heap words (Control g))) ≡ free_in owner g

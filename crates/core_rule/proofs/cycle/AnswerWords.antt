@@ -1,4 +1,4 @@
--- What stays when a seat's own word is written: the fragments' words, the phase, the colours, and the other seats' part in a cycle.
+-- What stays when a seat's own word is written: the fragments' words, the phase, the colours, and the other seats' standing in a cycle.
 use Rattle.std.proofs.Common.{◌≢◌, ℕ, ◌<◌, List, inl, refl, ◌∙◌, arith}
 use Rattle.core_rule.proofs.Terms.{Heap, Control, Word, put, Colour, HeapInCycle, Owner}
 use Rattle.core_machine.specs.declared.table.address.Address.TheVariants.{Answer, Phase}

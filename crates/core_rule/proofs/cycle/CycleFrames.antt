@@ -1,29 +1,29 @@
--- What stays of a seat's part in a cycle, and of the colours.
+-- What stays of a seat's standing in a cycle, and of the colours.
 use Rattle.std.proofs.Common.{◌⊎◌, ◌≡◌, ℕ, List, Bool, Option, inl, inr, refl, ◌∙◌, ◌≢◌, sym}
-use Rattle.core_rule.proofs.Terms.{Heap, Place, ShadingOld, ShadingNew, Swapping, at, Seat, Colour, White, Black, IsMarked, WordPointsTo, IsBetween, Coloured, BornColours}
+use Rattle.core_rule.proofs.Terms.{Heap, Point, ShadingOld, ShadingNew, Swapping, at, Seat, Colour, White, Black, IsMarked, WordPointsTo, IsBetween, Coloured, BornColours}
 use Rattle.core_rule.proofs.Terms.{SeatInCycle, Flight, DeletionBarrier, FieldStands, ShadedStands, RootsStand, WhileAccess, WhilePolling, Owner, Borne, Kept, born_bit}
 use Rattle.core_rule.proofs.Terms.{AnswersAgree, AnswerStands}
 use Rattle.core_machine.specs.declared.table.address.Address.TheVariants.{Answer}
-use Rattle.core_machine.specs.declared.place.Place.TheVariants as places
-use Rattle.core_machine.specs.declared.place.Polling.{Polling}
-use Rattle.core_machine.specs.declared.place.Polling.TheVariants.{Asking, Shading, Answering}
-use Rattle.core_machine.specs.declared.place.Access.{Access}
+use Rattle.core_machine.specs.declared.point.Point.TheVariants as points
+use Rattle.core_machine.specs.declared.point.Polling.{Polling}
+use Rattle.core_machine.specs.declared.point.Polling.TheVariants.{Asking, Shading, Answering}
+use Rattle.core_machine.specs.declared.point.Access.{Access}
 use Rattle.core_rule.proofs.colours.Births.{born_colours_stay}
 use Rattle.core_rule.proofs.lists.Options.{if_some_goes_on}
 
 -- what holds on the way goes on to hold
-pub while_access_goes_on : (P Q : Access → Type 0) → ((place : Access) → P place → Q place) → (place : Place) → WhileAccess P place → WhileAccess Q place
-while_access_goes_on P Q more (places.Access place) holds = more place holds
+pub while_access_goes_on : (P Q : Access → Type 0) → ((point : Access) → P point → Q point) → (point : Point) → WhileAccess P point → WhileAccess Q point
+while_access_goes_on P Q more (points.Access point) holds = more point holds
 while_access_goes_on P Q more _ holds = tt
 
 -- so does what holds while the phase is answered
-pub while_polling : (P Q : Polling → Type 0) → ((place : Polling) → P place → Q place) → (place : Place) → WhilePolling P place → WhilePolling Q place
-while_polling P Q more (places.Polling place) holds = more place holds
+pub while_polling : (P Q : Polling → Type 0) → ((point : Polling) → P point → Q point) → (point : Point) → WhilePolling P point → WhilePolling Q point
+while_polling P Q more (points.Polling point) holds = more point holds
 while_polling P Q more _ holds = tt
 
 -- the roots stay marked
 pub roots_stay : (colour coloured : ℕ → Colour) (seat : Seat) → ((f : ℕ) → IsMarked colour f → IsMarked coloured f)
-    → (place : Polling) → RootsStand colour seat place → RootsStand coloured seat place
+    → (point : Polling) → RootsStand colour seat point → RootsStand coloured seat point
 roots_stay colour coloured seat marks Asking roots = tt
 roots_stay colour coloured seat marks Shading roots = λ r before. if_some_goes_on (IsMarked colour) (IsMarked coloured) marks _ (roots r before)
 roots_stay colour coloured seat marks Answering roots = λ r. if_some_goes_on (IsMarked colour) (IsMarked coloured) marks _ (roots r)
@@ -35,10 +35,10 @@ IsWatching ShadingNew = Unit {0}
 IsWatching Swapping = Unit {0}
 IsWatching _ = ⊥
 
--- what holds on the way goes on to hold at its place
-access_at : (P Q : Access → Type 0) (place : Place) → ((reaching : Access) → place ≡ places.Access reaching → P reaching → Q reaching)
-    → WhileAccess P place → WhileAccess Q place
-access_at P Q (places.Access reaching) more holds = more reaching refl holds
+-- what holds on the way goes on to hold at its point
+access_at : (P Q : Access → Type 0) (point : Point) → ((reaching : Access) → point ≡ points.Access reaching → P reaching → Q reaching)
+    → WhileAccess P point → WhileAccess Q point
+access_at P Q (points.Access reaching) more holds = more reaching refl holds
 access_at P Q _ more holds = tt
 
 -- while black fragments are made, the sources of born ones lead where they led, or to what is marked
@@ -59,15 +59,15 @@ deletion_barrier_stays heap words now colour coloured marks f part leads old wat
 ]
 
 module _ (heap : Heap) (words now : List ℕ) (colour coloured : ℕ → Colour) (seat : Seat) (marks : (f : ℕ) → IsMarked colour f → IsMarked coloured f) where
-  pub field_stands_still : (place : Access)
-      → (IsWatching place → (g : ℕ) → WordPointsTo heap now seat.reached seat.part g → WordPointsTo heap words seat.reached seat.part g ⊎ IsMarked coloured g)
-      → FieldStands heap words colour seat place → FieldStands heap now coloured seat place
+  pub field_stands_still : (point : Access)
+      → (IsWatching point → (g : ℕ) → WordPointsTo heap now seat.reached seat.part g → WordPointsTo heap words seat.reached seat.part g ⊎ IsMarked coloured g)
+      → FieldStands heap words colour seat point → FieldStands heap now coloured seat point
   field_stands_still ShadingOld leads field = deletion_barrier_stays heap words now colour coloured marks _ _ (leads tt) _ field
   field_stands_still ShadingNew leads field = deletion_barrier_stays heap words now colour coloured marks _ _ (leads tt) _ field
   field_stands_still Swapping leads field = deletion_barrier_stays heap words now colour coloured marks _ _ (leads tt) _ field
   field_stands_still _ leads field = tt
 
-  shaded_stays : (place : Access) → ShadedStands colour seat place → ShadedStands coloured seat place
+  shaded_stays : (point : Access) → ShadedStands colour seat point → ShadedStands coloured seat point
   shaded_stays ShadingNew shaded = if_some_goes_on (IsMarked colour) (IsMarked coloured) marks _ shaded
   shaded_stays Swapping shaded = λ on. (if_some_goes_on (IsMarked colour) (IsMarked coloured) marks _ (shaded on).0, if_some_goes_on (IsMarked colour) (IsMarked coloured) marks _ (shaded on).1)
   shaded_stays _ shaded = tt
@@ -91,13 +91,13 @@ leaves_cycle_unchanged heap words owner colour phase number = record {
 
 -- what a set has loaded its field's old value of is born
 abbrev pub WatchesBorn : (ℕ → Owner) → Seat → Type 0
-WatchesBorn owner seat = (reaching : Access) → seat.place ≡ places.Access reaching → IsWatching reaching → born_bit (owner seat.reached) ≡ 1
+WatchesBorn owner seat = (reaching : Access) → seat.point ≡ points.Access reaching → IsWatching reaching → born_bit (owner seat.reached) ≡ 1
 
--- its part stands where its answer does, what is marked and what it bears, and where its field leads whose old value a set has loaded
+-- it has its standing where its answer stays, what is marked and what it bears, and where its field leads whose old value a set has loaded
 pub seat_in_cycle_where_watched : (heap : Heap) (words now : List ℕ) (owner later : ℕ → Owner) (colour coloured : ℕ → Colour) (phase answers : ℕ) (gone : Bool) (number : ℕ) (seat : Seat)
     → at heap now (Answer number) ≡ at heap words (Answer number) → ((f : ℕ) → IsMarked colour f → IsMarked coloured f)
     → ((f : ℕ) → later f ≡ Borne number → (owner f ≡ Borne number) × (coloured f ≡ colour f))
-    → (IsBetween 2 5 phase → (reaching : Access) → seat.place ≡ places.Access reaching → IsWatching reaching → (g : ℕ) → WordPointsTo heap now seat.reached seat.part g
+    → (IsBetween 2 5 phase → (reaching : Access) → seat.point ≡ points.Access reaching → IsWatching reaching → (g : ℕ) → WordPointsTo heap now seat.reached seat.part g
     → WordPointsTo heap words seat.reached seat.part g ⊎ IsMarked coloured g)
     → SeatInCycle heap words phase answers gone owner colour number seat → SeatInCycle heap now phase answers gone later coloured number seat
 seat_in_cycle_where_watched heap words now owner later colour coloured phase answers gone number seat answer marks births watches cycle = record {
@@ -110,10 +110,10 @@ seat_in_cycle_where_watched heap words now owner later colour coloured phase ans
   };
   answer = cycle.answer;
   flight = record {
-    set = λ marking snapped. access_at (FieldStands heap words colour seat) (FieldStands heap now coloured seat) seat.place
+    set = λ marking snapped. access_at (FieldStands heap words colour seat) (FieldStands heap now coloured seat) seat.point
         (λ reaching is. field_stands_still heap words now colour coloured seat marks reaching (watches marking reaching is)) (cycle.flight.set marking snapped);
-    shaded = λ marking. while_access_goes_on (ShadedStands colour seat) (ShadedStands coloured seat) (shaded_stays heap words now colour coloured seat marks) seat.place (cycle.flight.shaded marking);
-    roots = λ begins. while_polling (RootsStand colour seat) (RootsStand coloured seat) (roots_stay colour coloured seat marks) seat.place (cycle.flight.roots begins);
+    shaded = λ marking. while_access_goes_on (ShadedStands colour seat) (ShadedStands coloured seat) (shaded_stays heap words now colour coloured seat marks) seat.point (cycle.flight.shaded marking);
+    roots = λ begins. while_polling (RootsStand colour seat) (RootsStand coloured seat) (roots_stay colour coloured seat marks) seat.point (cycle.flight.roots begins);
   };
   births = born_colours_stay owner later colour coloured number seat.answered births cycle.births;
 }
@@ -145,7 +145,7 @@ answers_agree_still heap words now phase answers gone number seat next same word
 
 -- a seat that goes on, by what it has in flight then
 pub seat_in_cycle_by_flight : (heap : Heap) (words now : List ℕ) (owner later : ℕ → Owner) (colour coloured : ℕ → Colour) (phase answers : ℕ) (gone : Bool) (number : ℕ) (seat next : Seat)
-    → SameAnswer seat next → at heap now (Answer number) ≡ at heap words (Answer number) → AnswerStands phase next.answered next.asked next.place
+    → SameAnswer seat next → at heap now (Answer number) ≡ at heap words (Answer number) → AnswerStands phase next.answered next.asked next.point
     → Flight heap now coloured phase next → BornColours later coloured number next.answered
     → SeatInCycle heap words phase answers gone owner colour number seat → SeatInCycle heap now phase answers gone later coloured number next
 seat_in_cycle_by_flight heap words now owner later colour coloured phase answers gone number seat next same word answer flight births cycle = record {

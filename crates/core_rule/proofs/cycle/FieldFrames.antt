@@ -1,10 +1,10 @@
 -- The fields at which sets stand are born; so a store into a seat's new object leaves them, and the colours.
 use Rattle.std.proofs.Common.{◌≡◌, ℕ, ◌*◌, ◌<◌, List, refl, ap, ◌∙◌, subst, arith, inl}
-use Rattle.core_rule.proofs.Terms.{Heap, Id, graph_of, Node, State, seat_at, Rule, Word, ShadingOld, ShadingNew, Swapping, put, Seat, Book, Colour, HeapInCycle, IsPart, node_at}
+use Rattle.core_rule.proofs.Terms.{Heap, Id, graph_of, Node, State, seat_at, Rule, Word, ShadingOld, ShadingNew, Swapping, put, Seat, Book, Colour, HeapInCycle, IsKeptFragment, node_at}
 use Rattle.core_rule.proofs.Terms.{Owner, Kept, born_bit, Finds, WayStands}
 use Rattle.core_machine.specs.declared.table.address.Address.TheVariants.{Phase, Answer}
-use Rattle.core_machine.specs.declared.place.Place.TheVariants as places
-use Rattle.core_machine.specs.declared.place.Access.{Access}
+use Rattle.core_machine.specs.declared.point.Point.TheVariants as points
+use Rattle.core_machine.specs.declared.point.Access.{Access}
 use Rattle.core_rule.proofs.words.Addresses.{at-put_apart, control_same_after_word}
 use Rattle.core_rule.proofs.cycle.CycleFrames.{IsWatching, LeadsStay, LeavesCycle, WatchesBorn, coloured_stays}
 use Rattle.core_rule.proofs.ways.KeptWords.{way_row_within_object, way_is_behind_first}
@@ -14,14 +14,14 @@ use Rattle.core_rule.proofs.colours.LeadsFrames.{same_sources_beside, led_before
 use Rattle.core_rule.proofs.colours.MarkWords.{marks_where_controls_same}
 
 module _ (nodes : ℕ → Node) (made : List Id) (owner : ℕ → Owner) (fragments : ℕ → List ℕ) (seat : Seat) where
-  way_found : (reaching : Access) → IsWatching reaching → WayStands nodes made owner fragments seat (places.Access reaching) → Finds nodes made owner fragments seat
+  way_found : (reaching : Access) → IsWatching reaching → WayStands nodes made owner fragments seat (points.Access reaching) → Finds nodes made owner fragments seat
   way_found ShadingOld watches way = way.0
   way_found ShadingNew watches way = way.0
   way_found Swapping watches way = way.0
   way_found _ watches way = absurd watches
 
 module _ (heap : Heap) (state : State) (book : Book) (rule : Rule heap state book) (r : ℕ) (below : r < heap.seats) (reaching : Access)
-    (is : (seat_at state r).place ≡ places.Access reaching) (watches : IsWatching reaching) where
+    (is : (seat_at state r).point ≡ points.Access reaching) (watches : IsWatching reaching) where
   abbrev nodes_now : ℕ → Node
   nodes_now = node_at (graph_of heap book.history) book.made
 
@@ -37,8 +37,8 @@ module _ (heap : Heap) (state : State) (book : Book) (rule : Rule heap state boo
       let row = way_row_within_object heap state.words (graph_of heap book.history) book.made book.owner book.fragments rule.machine.limits stands.control_words stands.ids stands.objects (seat_at state r) finds in
       ap book.owner finds.way.here ∙ (stands.objects.kept finds.index finds.way.below finds.way.kept).owned finds.row (omega (arith, row))
 
-  pub watched_is_part : IsPart book.owner (seat_at state r).reached
-  watched_is_part = record { index = watched_finds.index; place = watched_finds.row; kept = watched_owned }
+  pub watched_is_kept_fragment : IsKeptFragment book.owner (seat_at state r).reached
+  watched_is_kept_fragment = record { index = watched_finds.index; position = watched_finds.row; kept = watched_owned }
 
   -- and has no spine, since no cell stands in an array's first one
   pub watched_tells_no_spine : TellsNoSpine heap state.words (seat_at state r).reached
@@ -49,7 +49,7 @@ module _ (heap : Heap) (state : State) (book : Book) (rule : Rule heap state boo
 
 -- so it is born
 pub watched_is_born : (heap : Heap) (state : State) (book : Book) (rule : Rule heap state book) (r : ℕ) → r < heap.seats → WatchesBorn book.owner (seat_at state r)
-watched_is_born heap state book rule r below reaching is watches = ap born_bit (watched_is_part heap state book rule r below reaching is watches).kept
+watched_is_born heap state book rule r below reaching is watches = ap born_bit (watched_is_kept_fragment heap state book rule r below reaching is watches).kept
 
 module _ (heap : Heap) (words : List ℕ) (owner : ℕ → Owner) (colour : ℕ → Colour) (now f part word : ℕ) (within : f < 16 * heap.groups) (fits : part < 4) (unborn : born_bit (owner f) ≡ 0) where
   -- a word of a fragment that isn't born is written
@@ -66,7 +66,7 @@ module _ (heap : Heap) (words : List ℕ) (owner : ℕ → Owner) (colour : ℕ 
     births = λ x borne. (borne, refl);
   }
 
-  -- and the heap's part
+  -- and the heap's standing
   pub heap_in_cycle_after_store : (fragments : ℕ → List ℕ) → HeapInCycle heap words now owner colour fragments → HeapInCycle heap (put heap words (Word f part) word) now owner colour fragments
   heap_in_cycle_after_store fragments cycle = record {
     word = at-put_apart heap words (Word f part) Phase word (λ e. omega (arith, e)) ∙ cycle.word;

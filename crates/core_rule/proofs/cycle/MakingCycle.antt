@@ -1,4 +1,4 @@
--- What a step of making leaves of the heap's and of each seat's part in a cycle.
+-- What a step of making leaves of the heap's and of each seat's standing in a cycle.
 use Rattle.std.proofs.Common.{◌≡◌, ◌≢◌, ℕ, ◌<◌, ◌≤◌, inl, inr, Bool, List, refl, sym, ◌∙◌, subst, arith}
 use Rattle.core_rule.proofs.Terms.{Heap, Control, tally, at, put, Seat, Colour, Marks, IsMarked, BornColours, HeapInCycle, SeatInCycle, Owner, Borne, born_bit, owner_after}
 use Rattle.core_machine.specs.declared.table.address.Address.TheVariants.{Phase, Answer}
@@ -19,7 +19,7 @@ module _ (heap : Heap) (words : List ℕ) (n : ℕ) where
   pub answer_same_after_control : (g number : ℕ) → number < 16 → at heap (put heap words (Control g) n) (Answer number) ≡ at heap words (Answer number)
   answer_same_after_control g number few = at-put_apart heap words (Control g) (Answer number) n (λ e. omega (arith, e, few))
 
--- another seat's part stays
+-- another seat's standing stays
 pub seat_in_cycle_after_control : (heap : Heap) (words : List ℕ) (owner later : ℕ → Owner) (colour coloured : ℕ → Colour) (now answers : ℕ) (gone : Bool) (r : ℕ) (seat : Seat) (g word : ℕ)
     → g < heap.groups → r < 16 → ((f : ℕ) → IsMarked colour f → IsMarked coloured f) → ((f : ℕ) → later f ≡ Borne r → (owner f ≡ Borne r) × (coloured f ≡ colour f)) → WatchesBorn owner seat
     → SeatInCycle heap words now answers gone owner colour r seat → SeatInCycle heap (put heap words (Control g) word) now answers gone later coloured r seat
@@ -33,9 +33,9 @@ seat_in_cycle_after_control heap words owner later colour coloured now answers g
     }
     watched cycle
 
--- a seat that goes on with the same answer, and bears no more, has its part in the cycle
+-- a seat that goes on with the same answer, and bears no more, has its standing in the cycle
 pub seat_in_cycle_goes_on : (heap : Heap) (words later_words : List ℕ) (owner later : ℕ → Owner) (colour : ℕ → Colour) (now answers : ℕ) (gone : Bool) (number : ℕ) (seat next : Seat)
-    → SameAnswer seat next → IsApart next.place → at heap later_words (Answer number) ≡ at heap words (Answer number) → ((f : ℕ) → later f ≡ Borne number → owner f ≡ Borne number)
+    → SameAnswer seat next → IsApart next.point → at heap later_words (Answer number) ≡ at heap words (Answer number) → ((f : ℕ) → later f ≡ Borne number → owner f ≡ Borne number)
     → SeatInCycle heap words now answers gone owner colour number seat → SeatInCycle heap later_words now answers gone later colour number next
 seat_in_cycle_goes_on heap words later_words owner later colour now answers gone number seat next same apart word before cycle =
     seat_in_cycle_apart heap words later_words owner later colour colour now answers gone number seat next same apart word
@@ -45,7 +45,7 @@ seat_in_cycle_goes_on heap words later_words owner later colour now answers gone
 pub was_borne_before : (o : Owner) (owner : ℕ → Owner) (fs : List ℕ) (r f : ℕ) → o ≢ Borne r → owner_after o owner fs f ≡ Borne r → owner f ≡ Borne r
 was_borne_before o owner fs r f none = handed_cases (λ x. x ≡ Borne r → owner f ≡ Borne r) o owner fs f (λ there is. absurd (none is)) (λ away is. is)
 
--- the heap's part stays
+-- the heap's standing stays
 pub heap_in_cycle_after_handing : (heap : Heap) (words : List ℕ) (owner : ℕ → Owner) (colour : ℕ → Colour) (fragments : ℕ → List ℕ) (now g word : ℕ) (o : Owner) (fs : List ℕ)
     → g < heap.groups → born_bit o ≡ 0 → ((f : ℕ) → 1 ≤ tally f fs → born_bit (owner f) ≡ 0) → SameKept owner (owner_after o owner fs) → Marks heap (put heap words (Control g) word) colour
     → HeapInCycle heap words now owner colour fragments → HeapInCycle heap (put heap words (Control g) word) now (owner_after o owner fs) colour fragments

@@ -3,7 +3,7 @@ use Rattle.std.proofs.Common.{◌≡◌, ◌≢◌, ℕ, ◌*◌, ◌^◌, ◌<�
 use Rattle.core_rule.proofs.Terms.{Heap, Value, graph_of, phase, Word, Swapping, at, put, head_of, pointer_in, is_meta, spine_words_in, State, seat_at, Seat, Book, object_head}
 use Rattle.core_rule.proofs.Terms.{IsMarked, IsBetween, HeapInCycle, ShadedStands, WhileAccess, NamesKept, value_word, HoldsValue, Rule}
 use Rattle.core_machine.specs.declared.table.address.Address.TheVariants.{Answer, Phase}
-use Rattle.core_machine.specs.declared.place.Place.TheVariants as places
+use Rattle.core_machine.specs.declared.point.Point.TheVariants as points
 use Rattle.core_machine.specs.seat.FitsAccess.{FitsAccess}
 use Rattle.core_machine.specs.seat.AccessMoves.{new_register_of}
 use Rattle.core_machine.specs.seat.Registers.{register_head as head_of_register}
@@ -24,21 +24,21 @@ use Rattle.core_rule.proofs.lists.Options.{holds_of_some}
 use Rattle.core_rule.proofs.ways.Told.{HasRoom, head_in-value}
 
 -- a swap's word is one of its fragment's four
-pub swap_part_is_small : (heap : Heap) (state : State) (book : Book) (number : ℕ) → Rule heap state book → number < heap.seats → (seat_at state number).place ≡ places.Access Swapping
+pub swap_part_is_small : (heap : Heap) (state : State) (book : Book) (number : ℕ) → Rule heap state book → number < heap.seats → (seat_at state number).point ≡ points.Access Swapping
     → (seat_at state number).part < 4
-swap_part_is_small heap state book number rule here place = let fits : FitsAccess (seat_at state number) Swapping = rw place at (seat_fits rule number here).way_at_place in fits.0.2.part_within
+swap_part_is_small heap state book number rule here point = let fits : FitsAccess (seat_at state number) Swapping = rw point at (seat_fits rule number here).way_at_point in fits.0.2.part_within
 
 -- its fragment is one of the heap's, and has no spine, since a cell stands in it
 pub swap_within_heap : (heap : Heap) (state : State) (book : Book) (number : ℕ) → Rule heap state book → number < heap.seats → (seat_at state number).reached < 16 * heap.groups
 swap_within_heap heap state book number rule here = (seat_fits rule number here).way.reached_within
 
-pub swap_tells_no_spine : (heap : Heap) (state : State) (book : Book) (number : ℕ) → Rule heap state book → number < heap.seats → (seat_at state number).place ≡ places.Access Swapping
+pub swap_tells_no_spine : (heap : Heap) (state : State) (book : Book) (number : ℕ) → Rule heap state book → number < heap.seats → (seat_at state number).point ≡ points.Access Swapping
     → TellsNoSpine heap state.words (seat_at state number).reached
-swap_tells_no_spine heap state book number rule here place =
-    watched_tells_no_spine heap state book rule number here Swapping place tt
+swap_tells_no_spine heap state book number rule here point =
+    watched_tells_no_spine heap state book rule number here Swapping point tt
 
 module _ (heap : Heap) (state : State) (book : Book) (number : ℕ) (rule : Rule heap state book) (here : number < heap.seats)
-    (place : (seat_at state number).place ≡ places.Access Swapping)
+    (point : (seat_at state number).point ≡ points.Access Swapping)
     (value : Value) (stamp : ℕ) (holds : HoldsValue book.made book.owner book.fragments (new_register_of (seat_at state number)) value)
     (names : NamesKept book.made book.owner book.fragments value) (small : stamp < 2 ^ 32) (word : ℕ) (is_word : word ≡ value_word (object_head book.made book.fragments) value stamp) where
   abbrev seat : Seat
@@ -56,7 +56,7 @@ module _ (heap : Heap) (state : State) (book : Book) (number : ℕ) (rule : Rule
   -- the new word is a cell's, so the fragment has no spine after it either
   pub swapped_tells_no_spine : TellsNoSpine heap words_swapped seat.reached
   swapped_tells_no_spine = tells_no_spine_after_put heap state.words seat.reached seat.part word rule.machine.table (swap_within_heap heap state book number rule here)
-      (ap spine_words_in is_word ∙ value_tells_no_spine (object_head book.made book.fragments) value stamp room small) (swap_tells_no_spine heap state book number rule here place)
+      (ap spine_words_in is_word ∙ value_tells_no_spine (object_head book.made book.fragments) value stamp room small) (swap_tells_no_spine heap state book number rule here point)
 
   -- the new word leads to the register's object
   new_leads : pointer_in seat.part word ≡ head_of_register (new_register_of seat)
@@ -70,13 +70,13 @@ module _ (heap : Heap) (state : State) (book : Book) (number : ℕ) (rule : Rule
   new_marked making x leads =
       let stands = rule.seats_stand number here in
       let shaded : ShadedStands book.colour seat Swapping
-      = subst (λ y. WhileAccess (ShadedStands book.colour seat) y) place (stands.cycle.flight.shaded (record { from = omega (arith, making.from); upto = making.upto })) in
-      let on = making_is_between_barriers p seat.answered (answer_is_near_phase heap state book number rule here Swapping place) making in
+      = subst (λ y. WhileAccess (ShadedStands book.colour seat) y) point (stands.cycle.flight.shaded (record { from = omega (arith, making.from); upto = making.upto })) in
+      let on = making_is_between_barriers p seat.answered (answer_is_near_phase heap state book number rule here Swapping point) making in
       holds_of_some (IsMarked book.colour) (head_of_register (new_register_of seat)) x (sym new_leads ∙ leads) (shaded on).1
 
   pub leads_stay_after_swap : LeadsStay heap state.words words_swapped book.owner book.colour p
-  leads_stay_after_swap making f source x born leads = elim (led_before_or_by_written heap state.words seat.reached seat.part word (swap_within_heap heap state book number rule here) (swap_part_is_small heap state book number rule here place)
-      (swap_tells_no_spine heap state book number rule here place) swapped_tells_no_spine rule.machine.table f source x leads) [
+  leads_stay_after_swap making f source x born leads = elim (led_before_or_by_written heap state.words seat.reached seat.part word (swap_within_heap heap state book number rule here) (swap_part_is_small heap state book number rule here point)
+      (swap_tells_no_spine heap state book number rule here point) swapped_tells_no_spine rule.machine.table f source x leads) [
         | inl before ↦ inl before
         | inr new ↦ inr (new_marked making x new.2)
       ]

@@ -29,14 +29,14 @@ dead_stay_after_word heap words owner x part n fits undead f i k is =
     (is, other_fragment_word_stays heap words n x part f 0 fits (omega arith) (λ same. undead i k (ap owner (sym same) ∙ is)))
 
 -- behind an object's first fragment no word is told
-pub no_words_behind_first : (part n : ℕ) → 0 < part → (if part == 0 then n else 0) ≡ 0
-no_words_behind_first part n behind = grind (arith, nat_tests, behind)
+pub no_words_behind_first : (position n : ℕ) → 0 < position → (if position == 0 then n else 0) ≡ 0
+no_words_behind_first position n behind = grind (arith, nat_tests, behind)
 
 -- a word tells the words of an object of the same shape
-tells_as : (object now : Node) (part word later : ℕ) → SameShape now object → later ≡ word → TellsWords object part word → TellsWords now part later
-tells_as object now part word later same is tells = record {
+tells_as : (object now : Node) (position word later : ℕ) → SameShape now object → later ≡ word → TellsWords object position word → TellsWords now position later
+tells_as object now position word later same is tells = record {
   sized = rw (same.kind, same.cells) tells.sized;
-  told = ap spine_words_in is ∙ tells.told ∙ ap (λ n. if part == 0 then n else 0) (sym (same_shape_same_words now object same));
+  told = ap spine_words_in is ∙ tells.told ∙ ap (λ n. if position == 0 then n else 0) (sym (same_shape_same_words now object same));
 }
 
 -- so what is to be freed tells its words

@@ -1,7 +1,7 @@
 -- The spine words of arrays that are to be freed are nobody's once marking has ended.
 use Rattle.std.proofs.Common.{◌≡◌, ◌≢◌, ℕ, ◌<◌, ◌⊎◌, List, refl, sym, ap, ◌∙◌, inl, inr}
 use Rattle.heap_words.specs.declared.spot.Spot.{Spot}
-use Rattle.core_rule.proofs.Terms.{Heap, Node, Place, Seat, Book, Colour, White, Grey, Black, fragment_at, Owner, Kept, SpineOwner, Placed, Spined, Gone, IsLeftReplica}
+use Rattle.core_rule.proofs.Terms.{Heap, Node, Point, Seat, Book, Colour, White, Grey, Black, fragment_at, Owner, Kept, SpineOwner, Placed, Spined, Gone, IsLeftReplica}
 use Rattle.core_rule.proofs.Terms.{AddressStands, SpinesStand, SpineInHand, TellsWords, Word, at}
 use Rattle.core_rule.proofs.marking.Settled.{settled_owners, settled_kept_was_marked, marked_kept_stays_kept, settled_dead_was_or_kept}
 use Rattle.core_rule.proofs.ways.LoadedPlaces.{while_loaded_goes_on}
@@ -103,9 +103,9 @@ module _ (heap : Heap) (words : List ℕ) (owner : ℕ → Owner) (colour : ℕ 
   }
 
   -- and the place of a spine that a call has loaded
-  pub address_stands_after_settling : (nodes : ℕ → Node) (spines : ℕ → Spot) (seat : Seat) (place : Place)
-      → AddressStands heap words nodes owner fragments spines spine_owner seat place → AddressStands heap words nodes later fragments spines words_later seat place
-  address_stands_after_settling nodes spines seat place = while_loaded_goes_on place (λ has reads i f calls is an_array.
+  pub address_stands_after_settling : (nodes : ℕ → Node) (spines : ℕ → Spot) (seat : Seat) (point : Point)
+      → AddressStands heap words nodes owner fragments spines spine_owner seat point → AddressStands heap words nodes later fragments spines words_later seat point
+  address_stands_after_settling nodes spines seat point = while_loaded_goes_on point (λ has reads i f calls is an_array.
       elim (reads i f calls (settled_kept_was_marked (owner f) (colour f) i 0 is).0 an_array)
       as (λ _. (seat.address ≡ spines i) ⊎ IsLeftReplica heap words (nodes i) (fragments i) words_later seat.answered seat.address) [
         | inl own ↦ inl own

@@ -1,8 +1,8 @@
 -- A seat with a call in flight and nothing at hand: it hasn't left, and what it has of its own is little.
 use Rattle.std.proofs.Common.{◌≡◌, ◌≢◌, ℕ, ◌+◌, ◌<◌, ◌≤◌, false, [], length, subst, arith}
 use Rattle.std.proofs.lemmas.Bool.{false_from_ne_true}
-use Rattle.core_rule.proofs.Terms.{Heap, taken_of, spent_of, Place, Fits, IsAtRest, SeatIsRefusing, State, seat_at, Seat, Book, IsAwaited, Rule}
-use Rattle.core_machine.specs.declared.place.Place.TheVariants as places
+use Rattle.core_rule.proofs.Terms.{Heap, taken_of, spent_of, Point, Fits, IsAtRest, SeatIsRefusing, State, seat_at, Seat, Book, IsAwaited, Rule}
+use Rattle.core_machine.specs.declared.point.Point.TheVariants as points
 use Rattle.core_rule.proofs.hand.Bodies.{bare_seat_holds_reserve}
 
 -- each seat's own data fit together, as the machine says
@@ -10,12 +10,12 @@ pub seat_fits : {heap : Heap} {state : State} {book : Book} → Rule heap state 
 seat_fits rule number here = rule.machine.fit number (rw rule.machine.seated here)
 
 -- a seat with a call in flight hasn't left
-pub in_flight_has_not_left : {heap : Heap} {state : State} {book : Book} → Rule heap state book → (number : ℕ) → number < heap.seats → (seat_at state number).place ≢ places.Idle → (seat_at state number).left ≡ false
+pub in_flight_has_not_left : {heap : Heap} {state : State} {book : Book} → Rule heap state book → (number : ℕ) → number < heap.seats → (seat_at state number).point ≢ points.Idle → (seat_at state number).left ≡ false
 in_flight_has_not_left {heap} {state} rule number here busy = false_from_ne_true (seat_at state number).left (λ left. busy ((seat_fits rule number here).gone left).idle)
 
--- a place at which no name is awaited
-pub place_awaits_none : (place now : Place) (d r : ℕ) → place ≡ now → ¬ IsAwaited now d r → ¬ IsAwaited place d r
-place_awaits_none place now d r is none awaited = none (subst (λ p. IsAwaited p d r) is awaited)
+-- a point at which no name is awaited
+pub point_awaits_none : (point now : Point) (d r : ℕ) → point ≡ now → ¬ IsAwaited now d r → ¬ IsAwaited point d r
+point_awaits_none point now d r is none awaited = none (subst (λ p. IsAwaited p d r) is awaited)
 
 -- a seat with nothing at hand has little, and spent no more than it took
 module _ (heap : Heap) (state : State) (book : Book) (number : ℕ) (rule : Rule heap state book) (here : number < heap.seats) (rest : IsAtRest (seat_at state number)) where

@@ -2,7 +2,7 @@
 use Rattle.std.specs.Prelude.{if◌then◌else◌}
 use Rattle.std.proofs.Common.{◌≡◌, ◌≢◌, ℕ, ◌==◌, length, refl, sym, arith, List}
 use Rattle.std.proofs.lemmas.Bool.{eq-eqb}
-use Rattle.core_rule.proofs.Terms.{Command, Heap, Place, Seat, Book, Began, HeapStands, SeatStands}
+use Rattle.core_rule.proofs.Terms.{Command, Heap, Point, Seat, Book, Began, HeapStands, SeatStands}
 use Rattle.core_rule.proofs.entries.Others.{seat_is_not_other}
 use Rattle.core_rule.proofs.gather.SinceCall.{no_reply_yet}
 
@@ -10,7 +10,7 @@ use Rattle.core_rule.proofs.gather.SinceCall.{no_reply_yet}
 abbrev pub begins : ℕ → ℕ → (ℕ → ℕ) → ℕ → ℕ
 begins number n begun r = if r == number then n else begun r
 
--- all that a seat has is as before, but what it gathers, its place and its way
+-- all that a seat has is as before, but what it gathers, its point and its way
 pub record SameData (seat next : Seat) : Type 0 where
   pub registers : next.registers ≡ seat.registers
   pub stored : next.stored ≡ seat.stored
@@ -21,9 +21,9 @@ pub record SameData (seat next : Seat) : Type 0 where
   pub left : next.left ≡ seat.left
   pub asked : next.asked ≡ seat.asked
 
-pub begun_has_same_data : (seat : Seat) (place : Place) (command : Command) (reached cursor tried given : ℕ) (reserve hand body : List ℕ)
-    → SameData seat (record seat { place = place; command = command; reached = reached; cursor = cursor; tried = tried; given = given; reserve = reserve; hand = hand; body = body })
-begun_has_same_data seat place command reached cursor tried given reserve hand body =
+pub begun_has_same_data : (seat : Seat) (point : Point) (command : Command) (reached cursor tried given : ℕ) (reserve hand body : List ℕ)
+    → SameData seat (record seat { point = point; command = command; reached = reached; cursor = cursor; tried = tried; given = given; reserve = reserve; hand = hand; body = body })
+begun_has_same_data seat point command reached cursor tried given reserve hand body =
     record { registers = refl; stored = refl; mine = refl; made = refl; sets = refl; answered = refl; left = refl; asked = refl }
 
 module _ (heap : Heap) (words : List ℕ) (book : Book) (number : ℕ) where
@@ -45,8 +45,8 @@ module _ (heap : Heap) (words : List ℕ) (book : Book) (number : ℕ) where
   }
 
   -- the call began, and isn't answered yet
-  pub began_at_begin : (place : Place) → Began book.history number (book_begun.begun number) place
-  began_at_begin place = rw begun_now record { earlier = omega arith; unanswered = λ active. no_reply_yet number book.history }
+  pub began_at_begin : (point : Point) → Began book.history number (book_begun.begun number) point
+  began_at_begin point = rw begun_now record { earlier = omega arith; unanswered = λ active. no_reply_yet number book.history }
     where
       begun_now : book_begun.begun number ≡ length book.history
       begun_now = rw (eq-eqb number number refl) refl

@@ -7,7 +7,7 @@ use Rattle.std.proofs.lemmas.List.Elements.{Contains-append_left, Contains-appen
 use Rattle.core_rule.proofs.Terms.{Entry, Heap, KeepsSpace, KeepsSpaceAfter, IsLegal, effect_of, phase, HasEnded, BeganSince, up_to_reply, since_reply, is_reply_to}
 use Rattle.heap_model.specs.declared.entry.Entry.TheVariants as entries
 use Rattle.heap_model.proofs.Histories.{total-more}
-use Rattle.heap_model.proofs.account_lemmas.Windows.{window_parts_make_whole}
+use Rattle.heap_model.proofs.account_lemmas.Windows.{window_sections_make_whole}
 
 -- an entry that begins this phase
 pub record IsBegun (heap : Heap) (before more : List Entry) (q : ℕ) : Type 0 where
@@ -55,7 +55,7 @@ each_begun heap before (entry ∷ more) q kept above below = elim (few_phases en
       begins = its.begins;
     }
 
--- what keeps the rules after a part keeps them after more of it
+-- what keeps the rules after a section keeps them after more of it
 later_keeps : (heap : Heap) (play : Bool) (before first more : List Entry) → KeepsSpaceAfter heap play before (first ++ more) → KeepsSpaceAfter heap play (before ++ first) more
 later_keeps heap play before [] more kept = subst (λ es. KeepsSpaceAfter heap play es more) (sym (append-nil before)) kept
 later_keeps heap play before (entry ∷ first) more kept =
@@ -90,7 +90,7 @@ module _ (heap : Heap) (history : List Entry) (legal : IsLegal heap false histor
   -- one whose first phase was still to come at the seat's last reply has begun since
   pub cycle_began_since : (number : ℕ) → phase (up_to_reply number history) ≤ 7 * cycle → 7 * (cycle + 1) ≤ phase history → BeganSince number cycle history
   cycle_began_since number before over =
-      let whole : up_to_reply number history ++ since_reply number history ≡ history = window_parts_make_whole (is_reply_to number) history in
+      let whole : up_to_reply number history ++ since_reply number history ≡ history = window_sections_make_whole (is_reply_to number) history in
       let begun = each_begun heap (up_to_reply number history) (since_reply number history) (7 * cycle + 1)
       (later_keeps heap false [] (up_to_reply number history) (since_reply number history) (subst (KeepsSpaceAfter heap false []) (sym whole) legal.space))
       (omega (arith, before)) (omega (arith, over, ap phase whole)) in

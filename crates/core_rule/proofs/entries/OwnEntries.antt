@@ -9,14 +9,14 @@ use Rattle.heap_model.proofs.Histories.{total_of-more}
 pub own_entries_grow : (number : ℕ) (history : List Entry) (entry : Entry) → is_of number entry ≡ true → filter (is_of number) (history ++ entry ∷ []) ≡ filter (is_of number) history ++ entry ∷ []
 own_entries_grow number history entry own = rw (filter-append (is_of number) history (entry ∷ []), own) refl
 
--- its own list grows as the history's part does
+-- its own list grows as its section of the history does
 pub own_list_grows : (number : ℕ) (history mine : List Entry) (entry : Entry) → is_of number entry ≡ true → mine ≡ filter (is_of number) history
     → mine ++ entry ∷ [] ≡ filter (is_of number) (history ++ entry ∷ [])
 own_list_grows number history mine entry own was = rw (own_entries_grow number history entry own, was) refl
 
-pub total_of_grows_by_own : (number : ℕ) (part : Effect → ℕ) (history : List Entry) (entry : Entry) → is_of number entry ≡ true
-    → total_of number part (history ++ entry ∷ []) ≡ total_of number part history + part (effect_of entry)
-total_of_grows_by_own number part history entry own = rw (total_of-more number part history entry, own) refl
+pub total_of_grows_by_own : (number : ℕ) (summand : Effect → ℕ) (history : List Entry) (entry : Entry) → is_of number entry ≡ true
+    → total_of number summand (history ++ entry ∷ []) ≡ total_of number summand history + summand (effect_of entry)
+total_of_grows_by_own number summand history entry own = rw (total_of-more number summand history entry, own) refl
 
 -- what a seat has at hand
 abbrev pub at_hand : Seat → ℕ

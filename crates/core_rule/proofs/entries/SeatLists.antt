@@ -2,11 +2,11 @@
 use Rattle.std.specs.Prelude.{Some}
 use Rattle.std.proofs.Common.{◌≡◌, ℕ, List, [], ◌++◌, filter, refl, sym, ap, ◌∙◌, subst, append_assoc}
 use Rattle.std.proofs.lemmas.List.{append-nil}
-use Rattle.core_rule.proofs.Terms.{Entry, Id, Value, is_of, register_value, Graph, Place, Register, Seat, object_head, OwnList, Awaits, IsAnswered, NamesKept, Owner}
+use Rattle.core_rule.proofs.Terms.{Entry, Id, Value, is_of, register_value, Graph, Point, Register, Seat, object_head, OwnList, Awaits, IsAnswered, NamesKept, Owner}
 use Rattle.heap_model.specs.declared.id.Value.TheVariants as values
-use Rattle.core_machine.specs.declared.place.Making.{Making}
-use Rattle.core_machine.specs.declared.place.Place.TheVariants as places
-use Rattle.core_machine.specs.declared.place.Access.TheVariants.{Naming}
+use Rattle.core_machine.specs.declared.point.Making.{Making}
+use Rattle.core_machine.specs.declared.point.Point.TheVariants as points
+use Rattle.core_machine.specs.declared.point.Access.TheVariants.{Naming}
 use Rattle.core_machine.specs.declared.seat.register.Register.TheVariants as registers
 use Rattle.core_rule.specs.graph.Registers as regs
 
@@ -24,8 +24,8 @@ module _ (made now_made : List Id) (owner now_owner : ℕ → Owner) (fragments 
 
 module _ (g now : Graph) (made now_made : List Id) (owner now_owner : ℕ → Owner) (fragments now_fragments : ℕ → List ℕ) (number : ℕ) (seat : Seat)
     (stay : NamesStay made now_made owner now_owner fragments now_fragments) (same : (r : ℕ) → register_value now number r ≡ register_value g number r) where
-  awaits_stay : (place : Place) (awaited : List Entry) → Awaits g made owner fragments number seat place awaited → Awaits now now_made now_owner now_fragments number seat place awaited
-  awaits_stay (places.Access Naming) awaited waits = record {
+  awaits_stay : (point : Point) (awaited : List Entry) → Awaits g made owner fragments number seat point awaited → Awaits now now_made now_owner now_fragments number seat point awaited
+  awaits_stay (points.Access Naming) awaited waits = record {
     id = waits.id;
     kept = stay.names waits.id waits.kept;
     loads = waits.loads ∙ ap Some (sym (stay.heads waits.id waits.kept));
@@ -40,7 +40,7 @@ module _ (g now : Graph) (made now_made : List Id) (owner now_owner : ℕ → Ow
   own_list_stays history more entries list = record {
     awaited = list.awaited;
     own = list.own ∙ sym entries;
-    awaits = awaits_stay seat.place list.awaited list.awaits;
+    awaits = awaits_stay seat.point list.awaited list.awaits;
   }
 
 -- where nothing is awaited, a seat's own list has all of its entries
@@ -50,39 +50,39 @@ own_list_is_all_told {g} {history} {made} {owner} {fragments} {number} {seat} li
 
 module _ (g : Graph) (history : List Entry) (made : List Id) (owner : ℕ → Owner) (fragments : ℕ → List ℕ) (number : ℕ) (seat : Seat) where
   -- a seat that makes an object awaits nothing
-  pub making_list_is_all_told : (making : Making) → seat.place ≡ places.Making making → OwnList g history made owner fragments number seat → seat.mine ≡ filter (is_of number) history
-  making_list_is_all_told making placed list = own_list_is_all_told list (subst (λ p. Awaits g made owner fragments number seat p list.awaited) placed list.awaits)
+  pub making_list_is_all_told : (making : Making) → seat.point ≡ points.Making making → OwnList g history made owner fragments number seat → seat.mine ≡ filter (is_of number) history
+  making_list_is_all_told making point_is list = own_list_is_all_told list (subst (λ p. Awaits g made owner fragments number seat p list.awaited) point_is list.awaits)
 
   -- an idle seat awaits nothing
-  pub idle_list_is_all_told : seat.place ≡ places.Idle → OwnList g history made owner fragments number seat → seat.mine ≡ filter (is_of number) history
+  pub idle_list_is_all_told : seat.point ≡ points.Idle → OwnList g history made owner fragments number seat → seat.mine ≡ filter (is_of number) history
   idle_list_is_all_told idle list = own_list_is_all_told list (subst (λ p. Awaits g made owner fragments number seat p list.awaited) idle list.awaits)
 
   -- a list that awaits nothing
-  pub own_list_where_all_told : Awaits g made owner fragments number seat seat.place [] → seat.mine ≡ filter (is_of number) history → OwnList g history made owner fragments number seat
+  pub own_list_where_all_told : Awaits g made owner fragments number seat seat.point [] → seat.mine ≡ filter (is_of number) history → OwnList g history made owner fragments number seat
   own_list_where_all_told none own = record { awaited = []; own = append-nil seat.mine ∙ own; awaits = none }
 
   -- while an object is made
-  pub own_list_of_making : (making : Making) → seat.place ≡ places.Making making → seat.mine ≡ filter (is_of number) history → OwnList g history made owner fragments number seat
-  own_list_of_making making placed own = own_list_where_all_told (subst (λ p. Awaits g made owner fragments number seat p []) (sym placed) refl) own
+  pub own_list_of_making : (making : Making) → seat.point ≡ points.Making making → seat.mine ≡ filter (is_of number) history → OwnList g history made owner fragments number seat
+  own_list_of_making making point_is own = own_list_where_all_told (subst (λ p. Awaits g made owner fragments number seat p []) (sym point_is) refl) own
 
 module _ (g : Graph) (made : List Id) (owner : ℕ → Owner) (fragments : ℕ → List ℕ) (number : ℕ) (seat : Seat) where
   -- a call that isn't answered awaits nothing
-  nothing_awaited : (place : Place) (awaited : List Entry) → ¬ IsAnswered place → Awaits g made owner fragments number seat place awaited → awaited ≡ []
-  nothing_awaited (places.Access Naming) awaited busy awaits = absurd (busy tt)
+  nothing_awaited : (point : Point) (awaited : List Entry) → ¬ IsAnswered point → Awaits g made owner fragments number seat point awaited → awaited ≡ []
+  nothing_awaited (points.Access Naming) awaited busy awaits = absurd (busy tt)
   nothing_awaited _ awaited busy awaits = awaits
 
-  module _ (history : List Entry) (busy : ¬ IsAnswered seat.place) (list : OwnList g history made owner fragments number seat) where
+  module _ (history : List Entry) (busy : ¬ IsAnswered seat.point) (list : OwnList g history made owner fragments number seat) where
     -- so its own list has all of its entries
     has_all : seat.mine ≡ filter (is_of number) history
-    has_all = own_list_is_all_told list (nothing_awaited seat.place list.awaited busy list.awaits)
+    has_all = own_list_is_all_told list (nothing_awaited seat.point list.awaited busy list.awaits)
 
     -- what is shown then is told at once, or awaited
     pub own_list_after_entry : (now : Graph) (later : List Entry) (new : Seat) (added awaited shown : List Entry) → new.mine ≡ seat.mine ++ added
-        → added ++ awaited ≡ shown → filter (is_of number) later ≡ filter (is_of number) history ++ shown → Awaits now made owner fragments number new new.place awaited
+        → added ++ awaited ≡ shown → filter (is_of number) later ≡ filter (is_of number) history ++ shown → Awaits now made owner fragments number new new.point awaited
         → OwnList now later made owner fragments number new
-    own_list_after_entry now later new added awaited shown mine parts grown awaits = record {
+    own_list_after_entry now later new added awaited shown mine joined grown awaits = record {
       awaited = awaited;
-      own = ap (λ (own : List Entry). own ++ awaited) mine ∙ append_assoc seat.mine added awaited ∙ ap (λ (x : List Entry). seat.mine ++ x) parts
+      own = ap (λ (own : List Entry). own ++ awaited) mine ∙ append_assoc seat.mine added awaited ∙ ap (λ (x : List Entry). seat.mine ++ x) joined
           ∙ ap (λ (own : List Entry). own ++ shown) has_all ∙ sym grown;
       awaits = awaits;
     }

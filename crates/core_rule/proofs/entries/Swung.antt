@@ -5,7 +5,7 @@ use Rattle.std.proofs.lemmas.List.{append_assoc}
 use Rattle.std.proofs.lemmas.List.Elements.{Contains-append_right}
 use Rattle.core_rule.proofs.Terms.{Entry, Swings, Heap, Id, IsLegal, KeepsSpaceAfter, graph_of, after_last, begins_phase, up_to_last, Graph, Node, IsObjectLegal, node, IsMade}
 use Rattle.heap_model.specs.account.Sweep.{IsArray, HasSwung, Sweeps}
-use Rattle.heap_model.proofs.account_lemmas.Windows.{window_parts_make_whole}
+use Rattle.heap_model.proofs.account_lemmas.Windows.{window_sections_make_whole}
 use Rattle.core_rule.proofs.growth.LaterGraphs.{each_object_stays}
 
 array_made : (g : Graph) (id : Id) → IsArray g id → IsMade g id
@@ -30,5 +30,5 @@ module _ (heap : Heap) (id : Id) where
   pub swung_is_made : (history : List Entry) → IsLegal heap false history → HasSwung id history → IsMade (graph_of heap history) id
   swung_is_made history legal swung =
       let there : Contains history (Swings id)
-      = subst (λ es. Contains es (Swings id)) (window_parts_make_whole begins_phase history) (Contains-append_right (up_to_last begins_phase history) (after_last begins_phase history) (Swings id) swung) in
+      = subst (λ es. Contains es (Swings id)) (window_sections_make_whole begins_phase history) (Contains-append_right (up_to_last begins_phase history) (after_last begins_phase history) (Swings id) swung) in
       swings_at [] history legal.space legal.objects there.0 there.1 there.2

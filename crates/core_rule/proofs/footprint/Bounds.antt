@@ -14,15 +14,15 @@ use Rattle.heap_model.proofs.account_lemmas.Windows.{up_to_last-yes, after_last-
 pub up_to_cycle_stays : (history added : List Entry) → list_any begins_cycle added ≡ false → up_to_cycle (history ++ added) ≡ up_to_cycle history
 up_to_cycle_stays history [] none = ap up_to_cycle (append-nil history)
 up_to_cycle_stays history (entry ∷ more) none =
-    let parts = or_parts (begins_cycle entry) (list_any begins_cycle more) none in
-    ap up_to_cycle (sym (append_assoc history (entry ∷ []) more)) ∙ up_to_cycle_stays (history ++ entry ∷ []) more parts.1 ∙ up_to_last-no begins_cycle history entry parts.0
+    let sides = or_parts (begins_cycle entry) (list_any begins_cycle more) none in
+    ap up_to_cycle (sym (append_assoc history (entry ∷ []) more)) ∙ up_to_cycle_stays (history ++ entry ∷ []) more sides.1 ∙ up_to_last-no begins_cycle history entry sides.0
 
 pub since_cycle-none : (history added : List Entry) → list_any begins_cycle added ≡ false → since_cycle (history ++ added) ≡ since_cycle history ++ added
 since_cycle-none history [] none = ap since_cycle (append-nil history) ∙ sym (append-nil (since_cycle history))
 since_cycle-none history (entry ∷ more) none =
-    let parts = or_parts (begins_cycle entry) (list_any begins_cycle more) none in
-    ap since_cycle (sym (append_assoc history (entry ∷ []) more)) ∙ since_cycle-none (history ++ entry ∷ []) more parts.1
-    ∙ ap (λ es. es ++ more) (after_last-no begins_cycle history entry parts.0) ∙ append_assoc (since_cycle history) (entry ∷ []) more
+    let sides = or_parts (begins_cycle entry) (list_any begins_cycle more) none in
+    ap since_cycle (sym (append_assoc history (entry ∷ []) more)) ∙ since_cycle-none (history ++ entry ∷ []) more sides.1
+    ∙ ap (λ es. es ++ more) (after_last-no begins_cycle history entry sides.0) ∙ append_assoc (since_cycle history) (entry ∷ []) more
 
 -- so the bound grows by what is taken
 pub bound_grows_by_taken : (heap : Heap) (begun : List Id) (history added : List Entry) → list_any begins_cycle added ≡ false

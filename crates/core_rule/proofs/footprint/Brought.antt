@@ -3,7 +3,7 @@ use Rattle.std.proofs.Common.{◌≡◌, ℕ, zero, suc, ◌+◌, ◌<◌, ◌�
 use Rattle.std.specs.List.{range_with_len}
 use Rattle.core_rule.proofs.Terms.{brings, all_bring, effect_of, is_of, taken_of, spent_of, is_reply_to, Entry, Heap, sum_upto}
 use Rattle.heap_model.proofs.account_lemmas.CycleLemmas.{sum-range-more}
-use Rattle.heap_model.proofs.account_lemmas.Windows.{sum_of_window_parts}
+use Rattle.heap_model.proofs.account_lemmas.Windows.{sum_of_window_sections}
 use Rattle.core_machine.proofs.table_lemmas.Free.{sum_upto-none}
 use Rattle.core_rule.proofs.lists.SumLemmas.{sum-suc, sum_le}
 
@@ -17,9 +17,9 @@ range_sum_is_counted_sum (suc n) f =
 -- what a seat has taken and not spent, it brings
 brings_unspent : (number own : ℕ) (history : List Entry) → own + spent_of number history ≡ taken_of number history → own ≤ brings number history
 brings_unspent number own history has =
-    let taken = sum_of_window_parts (is_reply_to number) (λ e. cond (is_of number e) (effect_of e).taken 0) history in
-    let given = sum_of_window_parts (is_reply_to number) (λ e. cond (is_of number e) (effect_of e).given 0) history in
-    let born = sum_of_window_parts (is_reply_to number) (λ e. cond (is_of number e) (effect_of e).born 0) history in
+    let taken = sum_of_window_sections (is_reply_to number) (λ e. cond (is_of number e) (effect_of e).taken 0) history in
+    let given = sum_of_window_sections (is_reply_to number) (λ e. cond (is_of number e) (effect_of e).given 0) history in
+    let born = sum_of_window_sections (is_reply_to number) (λ e. cond (is_of number e) (effect_of e).born 0) history in
     omega (arith, has, taken, given, born)
 
 module _ (heap : Heap) (history : List Entry) (own : ℕ → ℕ) (has : (q : ℕ) → q < heap.seats → own q + spent_of q history ≡ taken_of q history) where

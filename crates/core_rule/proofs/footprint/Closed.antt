@@ -5,7 +5,7 @@ use Rattle.std.proofs.lemmas.List.Sums.{fold-append}
 use Rattle.core_rule.proofs.Terms.{graph_of, begins_cycle, up_to_cycle, since_cycle, Entry, Heap, Id, Graph, opening, after_entry, graph_after, AcceptsAll, IsObjectLegal, node}
 use Rattle.core_rule.proofs.Terms.{register_value, IsMade, Points, Reaches, from_register, from_cell, IsReach}
 use Rattle.heap_model.specs.declared.id.Value.TheVariants.{Object}
-use Rattle.heap_model.proofs.account_lemmas.Windows.{window_parts_make_whole}
+use Rattle.heap_model.proofs.account_lemmas.Windows.{window_sections_make_whole}
 use Rattle.core_rule.specs.footprint.Footprint.{is_inside}
 use Rattle.core_rule.proofs.footprint.Inside.{begun_is_inside, later_made_is_inside, inside_made_is_begun}
 use Rattle.core_rule.proofs.growth.EntryGrowth.{grows_by_entry}
@@ -62,15 +62,15 @@ module _ (heap : Heap) (history : List Entry) (begun : List Id) (legal : IsObjec
   abbrev now : Graph
   now = graph_of heap history
 
-  pub legal_in_two_parts : IsObjectLegal heap (up_to_cycle history ++ since_cycle history)
-  legal_in_two_parts = subst (IsObjectLegal heap) (sym (window_parts_make_whole begins_cycle history)) legal
+  pub legal_in_two_sections : IsObjectLegal heap (up_to_cycle history ++ since_cycle history)
+  legal_in_two_sections = subst (IsObjectLegal heap) (sym (window_sections_make_whole begins_cycle history)) legal
 
   grown : graph_after earlier (since_cycle history) ≡ now
-  grown = sym (fold-append after_entry (opening heap) (up_to_cycle history) (since_cycle history)) ∙ ap (graph_of heap) (window_parts_make_whole begins_cycle history)
+  grown = sym (fold-append after_entry (opening heap) (up_to_cycle history) (since_cycle history)) ∙ ap (graph_of heap) (window_sections_make_whole begins_cycle history)
 
   closed_now : IsClosed now (is_inside earlier begun)
   closed_now = subst (λ g. IsClosed g (is_inside earlier begun)) grown
-      (closed_after earlier (since_cycle history) (is_inside earlier begun) (accepts_later (opening heap) (up_to_cycle history) (since_cycle history) legal_in_two_parts)
+      (closed_after earlier (since_cycle history) (is_inside earlier begun) (accepts_later (opening heap) (up_to_cycle history) (since_cycle history) legal_in_two_sections)
       (later_made_is_inside earlier begun) (closed_then earlier begun reach))
 
   -- what a register holds is inside

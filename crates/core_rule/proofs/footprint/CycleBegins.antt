@@ -8,7 +8,7 @@ use Rattle.heap_model.specs.PhasePlan.{barriers as barriers_phase, rest as resti
 use Rattle.heap_model.specs.declared.id.Value.TheVariants as values
 use Rattle.core_machine.specs.collector.FitsTurns.{FitsStage}
 use Rattle.core_machine.specs.declared.collector.stage.Stage.TheVariants as stages
-use Rattle.core_machine.specs.declared.place.Place.TheVariants as places
+use Rattle.core_machine.specs.declared.point.Point.TheVariants as points
 use Rattle.core_machine.specs.seat.FitsAccess.{SeatIsAtSet}
 use Rattle.core_rule.specs.footprint.Footprint.{StageStandsInside, is_inside, inside_bit}
 use Rattle.core_rule.specs.looks.Looks.{AllLooksStand}
@@ -51,12 +51,12 @@ module _ (heap : Heap) (state new : State) (book : Book) (begun_at : ℕ → ℕ
   graph = ap (graph_of heap) keeps.grown ∙ graph_same_at_begin heap book.history (Advance p) begins
 
   -- every seat has answered at rest or has left, so none loads the old value of a set
-  no_set : (number : ℕ) → number < heap.seats → (seat_at state number).place ≢ places.Access ShadingOld
-  no_set number here placed =
+  no_set : (number : ℕ) → number < heap.seats → (seat_at state number).point ≢ points.Access ShadingOld
+  no_set number here point_is =
       let looked : HasLooked heap.seats state.collector.phase state.collector.looked = subst (FitsStage heap state.collector.phase state.collector.looked) advancing rule.machine.collector_fit.at_stage in
-      let fits : SeatIsAtSet (seat_at state number) × (has_barrier_of (seat_at state number) ≡ true) × IsSome (head_of (seat_at state number).loaded) = rw placed at (seat_fits rule number here).way_at_place in
+      let fits : SeatIsAtSet (seat_at state number) × (has_barrier_of (seat_at state number) ≡ true) × IsSome (head_of (seat_at state number).loaded) = rw point_is at (seat_fits rule number here).way_at_point in
       let told = (rule.seats_stand number here).cycle.answers_told in
-      let present = in_flight_has_not_left rule number here (λ idle. cc (idle, placed)) in
+      let present = in_flight_has_not_left rule number here (λ idle. cc (idle, point_is)) in
       let answered = rule.collector_stands.looked number (omega (arith, here, looked.all)) here (told.leaves ∙ present) in
       let barriers = barrier_is_between (seat_at state number) fits.1 in
       omega (arith, answered, told.told, rested, barriers.from)
@@ -71,7 +71,7 @@ module _ (heap : Heap) (state new : State) (book : Book) (begun_at : ℕ → ℕ
         subst (λ id. inside id ≡ true) (referred_id_is_objects book (register_value (graph_of heap book.history) number r) f i k refers owned)
         (register_ids_are_inside heap now.history begun keeps.rule.heap_stands.legal.objects reach number r refers.id
         (subst (λ g. register_value g number r ≡ values.Object refers.id) (sym graph) refers.is))
-    named_begun f i k (by_set number here placed loads) owned = absurd (no_set number here placed)
+    named_begun f i k (by_set number here point_is loads) owned = absurd (no_set number here point_is)
     named_begun f i k (by_scan scan target shading) owned = absurd (cc (shading, advancing))
     named_begun f i k (by_spine s spreading) owned = absurd (cc (spreading, advancing))
 
@@ -109,7 +109,7 @@ module _ (heap : Heap) (state new : State) (book : Book) (begun_at : ℕ → ℕ
           | inl marked ↦ marked_begun begun reach f i k owned marked
           | inr last ↦ absurd (omega (arith, last, is_begun))
         ];
-        olds = λ number f i k here placed loads owned. absurd (no_set number here (ap (λ (s : Seat). s.place) (sym (seats number)) ∙ placed));
+        olds = λ number f i k here point_is loads owned. absurd (no_set number here (ap (λ (s : Seat). s.point) (sym (seats number)) ∙ point_is));
         stage = subst (StageStandsInside heap now.made begun (is_inside (graph_of heap (up_to_cycle now.history)) begun) now.owner (bound heap begun now.history)) (sym looking) tt;
         size = size_begun begun reach;
       };

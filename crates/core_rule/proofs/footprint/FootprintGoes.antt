@@ -4,7 +4,7 @@ use Rattle.core_rule.proofs.Terms.{cycle_phases, Entry, Heap, Id, graph_of, phas
 use Rattle.core_rule.proofs.Terms.{Kept, Rule}
 use Rattle.heap_model.specs.PhasePlan.{clearing as clearing_phase}
 use Rattle.core_machine.specs.declared.collector.stage.Stage.TheVariants as stages
-use Rattle.core_machine.specs.declared.place.Place.TheVariants as places
+use Rattle.core_machine.specs.declared.point.Point.TheVariants as points
 use Rattle.core_rule.specs.footprint.Footprint.{Footprint, StageStandsInside, is_inside}
 use Rattle.core_rule.proofs.book.BookGoing.{BookGoesOn}
 use Rattle.core_rule.proofs.footprint.Named.{named_is_inside}
@@ -39,14 +39,14 @@ module _ (heap : Heap) (state new : State) (book now : Book) (added : List Entry
 
   module _ (foot : Footprint heap state book begun inside most) where
     -- an old value that was loaded before
-    pub old_value_is_inside : (number f i k : ℕ) → number < heap.seats → (seat_at state number).place ≡ places.Access ShadingOld → head_of (seat_at state number).loaded ≡ Some f
+    pub old_value_is_inside : (number f i k : ℕ) → number < heap.seats → (seat_at state number).point ≡ points.Access ShadingOld → head_of (seat_at state number).loaded ≡ Some f
         → now.owner f ≡ Kept i k → inside (id_at now.made i) ≡ true
-    old_value_is_inside number f i k here placed loads owned =
-        kept_stays_inside heap state new book now rule after goes begun reach f i k owned (λ was below. foot.olds number f i k here placed loads was)
+    old_value_is_inside number f i k here point_is loads owned =
+        kept_stays_inside heap state new book now rule after goes begun reach f i k owned (λ was below. foot.olds number f i k here point_is loads was)
 
     -- the footprint goes on where all that is kept is inside in the last phase, and what sets and the collector have loaded is
     pub footprint_goes_on : (phase now.history % cycle_phases ≡ clearing_phase → (f i k : ℕ) → book.owner f ≡ Kept i k → inside (id_at book.made i) ≡ true)
-        → ((number f i k : ℕ) → number < heap.seats → (seat_at new number).place ≡ places.Access ShadingOld → head_of (seat_at new number).loaded ≡ Some f
+        → ((number f i k : ℕ) → number < heap.seats → (seat_at new number).point ≡ points.Access ShadingOld → head_of (seat_at new number).loaded ≡ Some f
         → now.owner f ≡ Kept i k → inside (id_at now.made i) ≡ true)
         → StageStandsInside heap now.made begun inside now.owner (most + taken) new.collector.stage
         → Footprint heap new now begun inside (most + taken)

@@ -13,10 +13,10 @@ use Rattle.core_rule.proofs.graph.Numbering.{id_at_own_number}
 use Rattle.core_rule.proofs.ways.LoadedObjects.{RefersTo, CellRefers}
 
 -- an object points to what its cell holds
-cell_points : (o : Option Node) (place : ℕ) (cell : Cell) (id : Id) → slice_get (node_in o).cells place ≡ Some cell → cell.value ≡ values.Object id → IsSomeAnd o (λ object. PointsTo object id)
-cell_points None place cell id there is = absurd (cc there)
-cell_points (Some object) place cell id there is =
-    (place, cell, slice_get_within object.cells place cell there, get_or_from_slice_get object.cells place cell cell there, is)
+cell_points : (o : Option Node) (position : ℕ) (cell : Cell) (id : Id) → slice_get (node_in o).cells position ≡ Some cell → cell.value ≡ values.Object id → IsSomeAnd o (λ object. PointsTo object id)
+cell_points None position cell id there is = absurd (cc there)
+cell_points (Some object) position cell id there is =
+    (position, cell, slice_get_within object.cells position cell there, get_or_from_slice_get object.cells position cell cell there, is)
 
 -- a kept object's first fragment tells its id
 pub referred_id_is_objects : (book : Book) (value : Value) (f i k : ℕ) (refers : RefersTo book.made book.owner book.fragments value f) → book.owner f ≡ Kept i k → refers.id ≡ id_at book.made i
@@ -44,11 +44,11 @@ module _ (heap : Heap) (state : State) (book : Book) (rule : Rule heap state boo
   cell_target_is_inside o f i k holder cell owned =
       subst (λ id. inside id ≡ true) (referred_id_is_objects book cell.cell.value f i k cell.refers owned)
       (cell_ids_are_inside heap book.history begun rule.heap_stands.legal.objects reach (id_at book.made o) cell.refers.id holder
-      (cell_points (node g (id_at book.made o)) cell.place cell.cell cell.refers.id cell.there cell.refers.is))
+      (cell_points (node g (id_at book.made o)) cell.position cell.cell cell.refers.id cell.there cell.refers.is))
 
   -- so is what is marked by name
   pub named_is_inside : (most : ℕ) → Footprint heap state book begun inside most → (f i k : ℕ) → IsNamed heap state book f → book.owner f ≡ Kept i k → inside (id_at book.made i) ≡ true
   named_is_inside most foot f i k (by_register number r refers) owned = register_inside number r f i k refers owned
-  named_is_inside most foot f i k (by_set number here placed loads) owned = foot.olds number f i k here placed loads owned
+  named_is_inside most foot f i k (by_set number here point_is loads) owned = foot.olds number f i k here point_is loads owned
   named_is_inside most foot f i k (by_scan scan next shading) owned = subst (StageStandsInside heap book.made begun inside book.owner most) shading foot.stage i k owned
   named_is_inside most foot f i k (by_spine s spreading) owned = subst (StageStandsInside heap book.made begun inside book.owner most) spreading foot.stage i k owned

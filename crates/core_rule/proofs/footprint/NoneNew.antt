@@ -22,7 +22,7 @@ module _ (heap : Heap) (state new : State) (book now : Book) (rule : Rule heap s
             absurd (omega (arith, both, numbered.0, above))
       ]
 
-  -- what is kept was kept as part of the same object
+  -- what is kept was kept as the same object's
   pub kept_was_kept : (f i k : ℕ) → now.owner f ≡ Kept i k → (i < length book.made) × (book.owner f ≡ Kept i k)
   kept_was_kept f i k owned =
       let below : i < length book.made = made_before i (after.heap_stands.objects.back f i k owned).0 in

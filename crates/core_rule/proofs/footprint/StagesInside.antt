@@ -3,7 +3,7 @@ use Rattle.std.specs.Prelude.{if◌then◌else◌}
 use Rattle.std.proofs.Common.{◌≡◌, ℕ, ◌+◌, ◌%◌, ◌==◌, inl, inr, true, false, nat_lt, Bool, List, Option, Some, None, refl, sym, ap, ◌∙◌, subst, arith}
 use Rattle.core_rule.proofs.Terms.{cycle_phases, Heap, Id, graph_of, phase, up_to_cycle, Graph, IsReach, turn_at, first_work, after_last_look, after_counted_look, after_look}
 use Rattle.core_rule.proofs.Terms.{has_answered_of, IsScanning, IsIndexing, IsClearing, Stage, Control, Word, State, found_by, pointer_in, payload_in, at, spine_place, Book, Grey}
-use Rattle.core_rule.proofs.Terms.{id_at, WordPointsTo, IsPart, ScanStands, Kept, Rule}
+use Rattle.core_rule.proofs.Terms.{id_at, WordPointsTo, IsKeptFragment, ScanStands, Kept, Rule}
 use Rattle.heap_model.specs.PhasePlan.{clearing as clearing_phase}
 use Rattle.core_machine.specs.collector.Marking.{after_last_group, after_pass, scan_step, scan_at, after_scan_load, after_first_load, spine_step, spine_scan_at}
 use Rattle.core_machine.specs.collector.Sweeping.{after_swept, after_examined, after_freed, after_cleared, taken_count_of}
@@ -16,7 +16,7 @@ use Rattle.core_rule.proofs.colours.SourceCases.{leads_by_word}
 use Rattle.core_rule.proofs.kept.Clears.{cleared_within_next_group, cleared_within_at_begin}
 use Rattle.core_rule.proofs.footprint.Named.{cell_target_is_inside}
 use Rattle.core_rule.proofs.marking.Marks.{settled_phase_is_between}
-use Rattle.core_rule.proofs.marking.ObjectEdges.{kept_leads_to_part_or_cell, part_is_kept}
+use Rattle.core_rule.proofs.marking.ObjectEdges.{kept_leads_to_fragment_or_cell, fragment_is_kept}
 use Rattle.core_rule.proofs.marking.Scans.{spine_word_leads_to_payload}
 use Rattle.core_rule.proofs.marking.SweepMarks.{after_swept_either, after_cleared_either}
 use Rattle.core_rule.proofs.turns.WorkCases.{first_work_cases}
@@ -60,8 +60,8 @@ module _ (heap : Heap) (state : State) (book : Book) (rule : Rule heap state boo
       by false = cycle.foot.stage
 
   -- after a pass
-  pub inside_after_pass : (group : ℕ) (found : Bool) (place : Option ℕ) → Inside (after_pass heap group found place)
-  inside_after_pass group found (Some place) = tt
+  pub inside_after_pass : (group : ℕ) (found : Bool) (position : Option ℕ) → Inside (after_pass heap group found position)
+  inside_after_pass group found (Some position) = tt
   inside_after_pass group found None = by (nat_lt (group + 1) heap.groups)
     where
       last : (some : Bool) → Inside (after_last_group some)
@@ -85,14 +85,14 @@ module _ (heap : Heap) (state : State) (book : Book) (rule : Rule heap state boo
   -- what a grey fragment leads to is inside, since its object is
   leads_inside : (f source target : ℕ) → book.colour f ≡ Grey → WordPointsTo heap state.words f source target → (i k : ℕ) → book.owner target ≡ Kept i k → inside (id_at book.made i) ≡ true
   leads_inside f source target grey leads i k owned =
-      let part : IsPart book.owner f = rule.marks_stand.heap_marks.grey f grey in
-      let holder = cycle.foot.kept f part.index part.place part.kept (inl (λ white. absurd (cc (grey, white)))) in
-      elim (kept_leads_to_part_or_cell heap state book rule f part.index part.place part.kept source target leads) as (λ _. inside (id_at book.made i) ≡ true) [
+      let kept_fragment : IsKeptFragment book.owner f = rule.marks_stand.heap_marks.grey f grey in
+      let holder = cycle.foot.kept f kept_fragment.index kept_fragment.position kept_fragment.kept (inl (λ white. absurd (cc (grey, white)))) in
+      elim (kept_leads_to_fragment_or_cell heap state book rule f kept_fragment.index kept_fragment.position kept_fragment.kept source target leads) as (λ _. inside (id_at book.made i) ≡ true) [
         | inl its ↦
-            let same : Kept part.index its.place ≡ Kept i k = sym (part_is_kept heap state book rule f part.index part.place part.kept target its) ∙ owned in
-            let index : part.index ≡ i = cc in
+            let same : Kept kept_fragment.index its.position ≡ Kept i k = sym (fragment_is_kept heap state book rule f kept_fragment.index kept_fragment.position kept_fragment.kept target its) ∙ owned in
+            let index : kept_fragment.index ≡ i = cc in
             subst (λ n. inside (id_at book.made n) ≡ true) index holder
-        | inr cell ↦ cell_target_is_inside heap state book rule cycle.begun cycle.reach part.index target i k holder cell owned
+        | inr cell ↦ cell_target_is_inside heap state book rule cycle.begun cycle.reach kept_fragment.index target i k holder cell owned
       ]
 
   -- so is what a scanned word leads to
@@ -120,8 +120,8 @@ module _ (heap : Heap) (state : State) (book : Book) (rule : Rule heap state boo
   pub inside_after_swept : (group : ℕ) → Inside (after_swept heap group)
   inside_after_swept group = after_swept_either Inside heap group tt (λ all. tt)
 
-  pub inside_after_examined : (group dead words : ℕ) (place : Option ℕ) → Inside (after_examined heap group dead words place)
-  inside_after_examined group dead words (Some place) = tt
+  pub inside_after_examined : (group dead words : ℕ) (position : Option ℕ) → Inside (after_examined heap group dead words position)
+  inside_after_examined group dead words (Some position) = tt
   inside_after_examined group dead words None = by (dead == 0)
     where
       by : (b : Bool) → Inside (if b then after_swept heap group else stages.Freeing group dead words)

@@ -2,11 +2,11 @@
 use Rattle.std.proofs.Common.{◌≡◌, ℕ, ◌<◌, ◌≤◌, ◌⊎◌, inl, inr, true, false, Bool, List, length, refl, sym, ap, ◌∙◌, subst, arith}
 use Rattle.std.proofs.lemmas.Bool.{cases_lt}
 use Rattle.core_rule.proofs.Terms.{Heap, Id, graph_of, up_to_cycle, since_cycle, begins_cycle, Graph, IsReach, IsMade, State, Book, id_at, object_number, Owner, Kept, Rule}
-use Rattle.heap_model.proofs.account_lemmas.Windows.{window_parts_make_whole}
+use Rattle.heap_model.proofs.account_lemmas.Windows.{window_sections_make_whole}
 use Rattle.core_rule.specs.footprint.Footprint.{is_inside, is_among}
 use Rattle.core_rule.proofs.book.BookGoing.{BookGoesOn}
-use Rattle.core_rule.proofs.footprint.Closed.{legal_in_two_parts}
-use Rattle.core_rule.proofs.book.Going.{OwnerGoes, stays, takes_part, becomes_part}
+use Rattle.core_rule.proofs.footprint.Closed.{legal_in_two_sections}
+use Rattle.core_rule.proofs.book.Going.{OwnerGoes, stays, taken_becomes_kept, borne_becomes_kept}
 use Rattle.core_rule.proofs.footprint.Inside.{later_made_is_inside, contains_by_test}
 use Rattle.core_rule.proofs.reach.ReachLists.{reached_is_made}
 use Rattle.core_rule.proofs.growth.LaterGraphs.{each_object_stays}
@@ -14,8 +14,8 @@ use Rattle.core_rule.proofs.growth.LaterGraphs.{each_object_stays}
 -- what is kept was so, or is of a new object
 pub kept_before_or_new : (made : ℕ) (o later : Owner) (i k : ℕ) → OwnerGoes made o later → later ≡ Kept i k → (o ≡ Kept i k) ⊎ (made ≤ i)
 kept_before_or_new made _ _ i k (stays o) is = inl is
-kept_before_or_new made _ _ i k (takes_part number j m above) is = let same : j ≡ i = cc in inr (omega (arith, above, same))
-kept_before_or_new made _ _ i k (becomes_part number j m above) is = let same : j ≡ i = cc in inr (omega (arith, above, same))
+kept_before_or_new made _ _ i k (taken_becomes_kept number j m above) is = let same : j ≡ i = cc in inr (omega (arith, above, same))
+kept_before_or_new made _ _ i k (borne_becomes_kept number j m above) is = let same : j ≡ i = cc in inr (omega (arith, above, same))
 kept_before_or_new made _ _ i k _ is = absurd (cc is)
 
 module _ (heap : Heap) (state new : State) (book now : Book) (rule : Rule heap state book) (after : Rule heap new now) (goes : BookGoesOn heap state book now)
@@ -41,8 +41,8 @@ module _ (heap : Heap) (state new : State) (book now : Book) (rule : Rule heap s
   -- nor when the cycle began
   new_before : (i : ℕ) → length book.made ≤ i → i < length now.made → ¬ IsMade earlier (id_at now.made i)
   new_before i above below made = new_unmade i above below
-      (subst (λ h. IsMade (graph_of heap h) (id_at now.made i)) (window_parts_make_whole begins_cycle book.history)
-      (each_object_stays heap (up_to_cycle book.history) (since_cycle book.history) (id_at now.made i) (legal_in_two_parts heap book.history begun rule.heap_stands.legal.objects reach) made).0)
+      (subst (λ h. IsMade (graph_of heap h) (id_at now.made i)) (window_sections_make_whole begins_cycle book.history)
+      (each_object_stays heap (up_to_cycle book.history) (since_cycle book.history) (id_at now.made i) (legal_in_two_sections heap book.history begun rule.heap_stands.legal.objects reach) made).0)
 
   kept_below : (f i k : ℕ) → now.owner f ≡ Kept i k → i < length now.made
   kept_below f i k owned = (after.heap_stands.objects.back f i k owned).0
@@ -58,7 +58,7 @@ module _ (heap : Heap) (state new : State) (book now : Book) (rule : Rule heap s
       by true among = absurd (new_before i above (kept_below f i k owned) (reached_is_made earlier (id_at now.made i) ((reach.reached (id_at now.made i)).0 (contains_by_test begun (id_at now.made i) among))))
       by false other = refl
 
-  -- what is kept was kept as part of the same object, or is inside
+  -- what is kept was kept as the same object's, or is inside
   pub kept_cases : (f i k : ℕ) → now.owner f ≡ Kept i k → ((book.owner f ≡ Kept i k) × (i < length book.made) × (id_at now.made i ≡ id_at book.made i)) ⊎ (inside (id_at now.made i) ≡ true)
   kept_cases f i k owned = elim (cases_lt i (length book.made)) [
     | inl below ↦ elim (kept_before_or_new (length book.made) (book.owner f) (now.owner f) i k (goes.owners.each f) owned) [

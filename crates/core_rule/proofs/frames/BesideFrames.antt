@@ -7,7 +7,7 @@ use Rattle.core_machine.specs.declared.table.address.Address.TheVariants.{Phase,
 use Rattle.core_rule.proofs.colours.LeadsFrames.{led_before_where_same}
 use Rattle.core_rule.proofs.colours.MarkWords.{marks_where_controls_same}
 use Rattle.core_rule.proofs.cycle.CycleFrames.{seat_in_cycle_where_watched}
-use Rattle.core_rule.proofs.cycle.FieldFrames.{watched_is_part}
+use Rattle.core_rule.proofs.cycle.FieldFrames.{watched_is_kept_fragment}
 use Rattle.core_rule.proofs.entries.AtRest.{seat_fits}
 use Rattle.core_rule.proofs.entries.InFlight.{stored_within_body}
 use Rattle.core_rule.proofs.frames.SeatFrames.{same_party_of_same_graph, seat_told_same_without_entry, kept_stays_with_owners, address_at_stays, seat_stands_where_left_alone}
@@ -88,14 +88,14 @@ module _ (heap : Heap) (state : State) (book : Book) (rule : Rule heap state boo
         legal = stands.legal;
       }
 
-  -- a seat has its part in the cycle
+  -- a seat has its standing in the cycle
   cycle_beside : (r : ℕ) → r < heap.seats → SeatInCycle heap now (phase book.history) (last_answer r book.history) (has_left r book.history) book.owner book.colour r (seat_at state r)
   cycle_beside r below =
       seat_in_cycle_where_watched heap state.words now book.owner book.owner book.colour book.colour (phase book.history) (last_answer r book.history) (has_left r book.history) r (seat_at state r)
       (beside.answers r (omega (arith, below, rule.machine.limits.seats_fit))) (λ f marked. marked) (λ f borne. (borne, refl))
       (λ making reaching is watching x leads.
-      let part = watched_is_part heap state book rule r below reaching is watching in
-      inl (led_before_where_same heap state.words now (seat_at state r).reached (same_sources_of_kept heap state book rule now beside.parts spines (seat_at state r).reached part.index part.place part.kept) (seat_at state r).part x leads))
+      let kept_fragment = watched_is_kept_fragment heap state book rule r below reaching is watching in
+      inl (led_before_where_same heap state.words now (seat_at state r).reached (same_sources_of_kept heap state book rule now beside.parts spines (seat_at state r).reached kept_fragment.index kept_fragment.position kept_fragment.kept) (seat_at state r).part x leads))
       (rule.seats_stand r below).cycle
 
   -- what it has stored into its object stands
@@ -103,7 +103,7 @@ module _ (heap : Heap) (state : State) (book : Book) (rule : Rule heap state boo
   stored_beside r below u less =
       let seat : Seat = seat_at state r in
       let fits = seat_fits rule r below in
-      let row : u / 4 < length seat.body = omega (arith, less, stored_within_body heap seat seat.place fits.at_place) in
+      let row : u / 4 < length seat.body = omega (arith, less, stored_within_body heap seat seat.point fits.at_point) in
       beside.parts (fragment_at seat.body (u / 4)) (u % 4) (fits.hand.body_within (u / 4) 0 row) (omega arith) ∙ (rule.seats_stand r below).own.stored u less
 
   -- and so does all of a seat that has its spine words, where what arrays have left stays as it is

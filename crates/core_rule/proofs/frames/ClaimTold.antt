@@ -3,7 +3,7 @@ use Rattle.std.proofs.Common.{◌≡◌, ◌≢◌, ℕ, ◌+◌, ◌*◌, ◌/�
 use Rattle.std.proofs.lemmas.Bool.{eq-eqb}
 use Rattle.std.proofs.lemmas.Bool.Decides.{eqb_tells}
 use Rattle.std.proofs.lemmas.List.{append-nil}
-use Rattle.core_rule.proofs.Terms.{Entry, Heap, IsLegal, graph_of, is_of, graph_seat, phase, last_answer, has_left, Place, tally, State, seat_at, takes_some, Seat, Book, Colour}
+use Rattle.core_rule.proofs.Terms.{Entry, Heap, IsLegal, graph_of, is_of, graph_seat, phase, last_answer, has_left, Point, tally, State, seat_at, takes_some, Seat, Book, Colour}
 use Rattle.core_rule.proofs.Terms.{CountsAgree, AreUsed, HeapInCycle, SeatInCycle, GathersRight, Began, IsAnswered, fragments_in_hand, Owner, Free, Taken, free_bit, owner_after}
 use Rattle.core_rule.proofs.Terms.{Rule}
 use Rattle.heap_model.specs.declared.entry.Entry.TheVariants as entries
@@ -36,13 +36,13 @@ pub record ClaimTold (heap : Heap) (state : State) (book : Book) (number : ℕ) 
   pub counts : (now : Seat) → now.made ≡ (seat_at state number).made → now.sets ≡ (seat_at state number).sets → now.left ≡ (seat_at state number).left
       → length now.reserve + length (fragments_in_hand now.hand now.body) ≡ length (seat_at state number).reserve + length (fragments_in_hand (seat_at state number).hand (seat_at state number).body) + count
       → CountsAgree (graph_of heap book.history) history number now
-  pub began : (now : Place) → Began history number (book.begun number) now
+  pub began : (now : Point) → Began history number (book.begun number) now
   pub gathers : GathersRight heap owner number (drop (book.begun number) history) (seat_at state number).cursor ((seat_at state number).tried + 1) 0
   pub other_gathers : (r : ℕ) → r < heap.seats → r ≢ number
       → GathersRight heap owner r (drop (book.begun r) history) (seat_at state r).cursor (seat_at state r).tried (seat_at state r).given
 
 module _ (heap : Heap) (state : State) (book : Book) (number : ℕ) (fs : List ℕ) (rule : Rule heap state book) (here : number < heap.seats)
-    (busy : ¬ IsAnswered (seat_at state number).place) (present : (graph_seat (graph_of heap book.history) number).left ≡ false) (none_given : (seat_at state number).given ≡ 0)
+    (busy : ¬ IsAnswered (seat_at state number).point) (present : (graph_seat (graph_of heap book.history) number).left ≡ false) (none_given : (seat_at state number).given ≡ 0)
     (once : (f : ℕ) → tally f fs ≤ 1) (below : (f : ℕ) → 1 ≤ tally f fs → f < 16 * heap.groups) (free : (f : ℕ) → 1 ≤ tally f fs → book.owner f ≡ Free)
     (none : (f : ℕ) → f / 16 ≡ ((seat_at state number).cursor + (seat_at state number).tried) % heap.groups → free_bit (owner_after (Taken number) book.owner fs f) ≡ 0) where
   nothing_given : GathersRight heap book.owner number (drop (book.begun number) book.history) (seat_at state number).cursor (seat_at state number).tried 0
@@ -66,7 +66,7 @@ module _ (heap : Heap) (state : State) (book : Book) (number : ℕ) (fs : List �
         others = λ r apart. seat_told_same_after_other r book.history entry (seat_is_not_other number r apart);
         counts = λ now same sets left more. counts_agree_after_own (graph_of heap book.history) (graph_of heap book.history) book.history number (seat_at state number) now stands.told.counts entry (eq-eqb number number refl)
             (same ∙ stands.told.counts.numbered) (sets ∙ stands.told.counts.stamped) (stands.told.counts.leaves ∙ sym left) (omega (arith, more));
-        began = λ now. began_after_entry book.history entry number (book.begun number) (seat_at state number).place now refl (λ still. busy) stands.told.began;
+        began = λ now. began_after_entry book.history entry number (book.begun number) (seat_at state number).point now refl (λ still. busy) stands.told.began;
         gathers = own_claim_gathers_right heap book.owner book.history number fs once below used (book.begun number) stands.told.began.earlier (seat_at state number).cursor (seat_at state number).tried 0 free none nothing_given;
         other_gathers = λ r under apart. other_claim_gathers_right heap book.owner book.history number fs once below used (book.begun r) (rule.seats_stand r under).told.began.earlier
             (seat_at state r).cursor (seat_at state r).tried (seat_at state r).given free r apart (rule.seats_stand r under).told.gathers;

@@ -1,10 +1,10 @@
 -- What stands of the heap and of each seat when a group's marks are cleared.
 use Rattle.std.proofs.Common.{◌≡◌, ◌≢◌, ℕ, ◌%◌, ◌<◌, Bool, true, false, List, length, bit_and, refl, ap, ◌∙◌, arith}
-use Rattle.core_rule.proofs.Terms.{cycle_phases, Heap, graph_of, phase, Place, Control, State, seat_at, IsAtRest, Seat, tally, at, put, Book, Colour, Coloured, BornColours}
+use Rattle.core_rule.proofs.Terms.{cycle_phases, Heap, graph_of, phase, Point, Control, State, seat_at, IsAtRest, Seat, tally, at, put, Book, Colour, Coloured, BornColours}
 use Rattle.core_rule.proofs.Terms.{RootsStand, WhilePolling, node_at, Borne, AnswerStands, Rule, HeapStands, SeatStands}
 use Rattle.heap_model.specs.PhasePlan.{clearing as clearing_phase, marking as marking_phase}
-use Rattle.core_machine.specs.declared.place.Place.TheVariants as places
-use Rattle.core_machine.specs.declared.place.Polling.TheVariants.{Asking, Shading, Answering}
+use Rattle.core_machine.specs.declared.point.Point.TheVariants as points
+use Rattle.core_machine.specs.declared.point.Polling.TheVariants.{Asking, Shading, Answering}
 use Rattle.core_machine.specs.table.Operation.{marks_cleared}
 use Rattle.core_rule.proofs.frames.SeatFrames.{names_stand_with_words}
 use Rattle.core_rule.proofs.cycle.CycleFrames.{answers_agree_still}
@@ -20,11 +20,11 @@ use Rattle.core_rule.proofs.words.SweepWords.{cleared_in, white_stays_when_clear
 use Rattle.core_rule.proofs.dying.DeadWords.{dead_stay_after_control}
 
 -- in the last phase nobody is about to answer that marking begins
-nobody_marks : (now answer : ℕ) (colour : ℕ → Colour) (seat : Seat) → now % cycle_phases ≡ clearing_phase → seat.asked % cycle_phases ≡ marking_phase → (place : Place) → AnswerStands now answer seat.asked place
-    → WhilePolling (RootsStand colour seat) place
-nobody_marks now answer colour seat last begins (places.Polling Asking) asks = tt
-nobody_marks now answer colour seat last begins (places.Polling Shading) asks = absurd (omega (arith, asks.now, begins, last))
-nobody_marks now answer colour seat last begins (places.Polling Answering) asks = absurd (omega (arith, asks.now, begins, last))
+nobody_marks : (now answer : ℕ) (colour : ℕ → Colour) (seat : Seat) → now % cycle_phases ≡ clearing_phase → seat.asked % cycle_phases ≡ marking_phase → (point : Point) → AnswerStands now answer seat.asked point
+    → WhilePolling (RootsStand colour seat) point
+nobody_marks now answer colour seat last begins (points.Polling Asking) asks = tt
+nobody_marks now answer colour seat last begins (points.Polling Shading) asks = absurd (omega (arith, asks.now, begins, last))
+nobody_marks now answer colour seat last begins (points.Polling Answering) asks = absurd (omega (arith, asks.now, begins, last))
 nobody_marks now answer colour seat last begins _ asks = tt
 
 module _ (heap : Heap) (state : State) (book : Book) (rule : Rule heap state book) (g : ℕ) (below : g < heap.groups) where
@@ -80,7 +80,7 @@ module _ (heap : Heap) (state : State) (book : Book) (rule : Rule heap state boo
       gone_bears_none r f left borne =
           let there = borne_is_in_seat_body heap state book rule r f borne in
           let idle = ((seat_fits rule r there.0).gone left).idle in
-          let rest : IsAtRest (seat_at state r) = rw idle at (seat_fits rule r there.0).at_place in
+          let rest : IsAtRest (seat_at state r) = rw idle at (seat_fits rule r there.0).at_point in
           let bare : tally f (seat_at state r).body ≡ 0 = ap (tally f) rest.no_body in
           omega (arith, bare, there.1)
 
@@ -110,7 +110,7 @@ module _ (heap : Heap) (state : State) (book : Book) (rule : Rule heap state boo
           flight = record {
             set = λ making. absurd (omega (arith, making.upto, last));
             shaded = λ making. absurd (omega (arith, making.upto, last));
-            roots = λ begins. nobody_marks (phase book.history) (seat_at state r).answered colour (seat_at state r) last begins (seat_at state r).place stands.cycle.answer;
+            roots = λ begins. nobody_marks (phase book.history) (seat_at state r).answered colour (seat_at state r) last begins (seat_at state r).point stands.cycle.answer;
           };
           births = births r under;
         };

@@ -144,7 +144,7 @@ module _ (heap : Heap) (state : State) (book : Book) (rule : Rule heap state boo
         address = address_at_stays heap state.words words_freed book book_freed seat kept_on
             (places_stay_where_same heap state.words words_freed (length book.made) book.spines book.spine_owner leaves_spines_after_freeing.spines) stands.names.way stands.names.address;
         gathers = gathers_right_after_freeing heap book.owner book.history fs (set_has_each_once g dead) inside are_dead (book.begun r) r seat.cursor seat.tried seat.given stands.told.began.earlier
-            fits.own.cursor_within (tried_within_groups heap seat seat.place fits.at_place) stands.told.gathers;
+            fits.own.cursor_within (tried_within_groups heap seat seat.point fits.at_point) stands.told.gathers;
         cycle = seat_in_cycle_after_other heap words_freed owner book.colour book.history entry refl r seat
             (seat_in_cycle_after_control heap state.words book.owner owner book.colour book.colour (phase book.history) (last_answer r book.history) (has_left r book.history) r seat g word below
             (omega (arith, under, rule.machine.limits.seats_fit)) (λ f marked. marked) (λ f borne. (was_borne_before Free book.owner fs r f (λ e. cc) borne, refl))

@@ -16,7 +16,7 @@ use Rattle.core_rule.proofs.hand.HandMoves.{hand_within_heap, same_hand_after_gi
 use Rattle.core_rule.proofs.entries.AtRest.{seat_fits}
 use Rattle.core_rule.proofs.entries.InFlight.{tried_within_groups}
 use Rattle.core_rule.proofs.cycle.MakingCycle.{seat_in_cycle_goes_on, answer_same_after_control, heap_in_cycle_after_handing, was_borne_before, seat_in_cycle_after_control}
-use Rattle.core_rule.proofs.objects.ObjectFrames.{SameKept, objects_with_same_kept, same_kept_after_part_handed, objects_after_control, free_is_not_kept}
+use Rattle.core_rule.proofs.objects.ObjectFrames.{SameKept, objects_with_same_kept, same_kept_after_taken_handed, objects_after_control, free_is_not_kept}
 use Rattle.core_rule.proofs.budgets.BudgetFrames.{SameGrants}
 use Rattle.core_rule.proofs.budgets.SameBooks.{same_grants_with_owners, same_dead_after_handing}
 use Rattle.core_rule.proofs.entries.ToldSpines.{seat_entry_tells_no_spine, same_told_after_entry}
@@ -61,7 +61,7 @@ module _ (heap : Heap) (state : State) (book : Book) (number : ℕ) (rule : Rule
   graph_same_after_giving = graph_same_after_gives heap book.history number (length fs)
 
   pub same_kept_after_giving : SameKept book.owner owner
-  same_kept_after_giving = same_kept_after_part_handed book.owner number fs Free free_is_not_kept held
+  same_kept_after_giving = same_kept_after_taken_handed book.owner number fs Free free_is_not_kept held
 
   kept_on : KeptStays before (graph_of heap book_given.history) book.made book.made book.owner owner book.fragments book.fragments
   kept_on = rw graph_same_after_giving (kept_stays_with_owners before book.made book.owner owner book.fragments same_kept_after_giving)
@@ -98,8 +98,8 @@ module _ (heap : Heap) (state : State) (book : Book) (number : ℕ) (rule : Rule
             refl (λ f there. ap born_bit (held f there)) same_kept_after_giving (marks_after_giving heap state.words book.colour g fs rule.machine.table below stands.cycle.marks) stands.cycle);
       }
 
-  -- the seat has its part in the cycle, where it goes on with none of a set or an answer
-  pub seat_in_cycle_after_giving : (now : Seat) → SameAnswer (seat_at state number) now → IsApart now.place
+  -- the seat has its standing in the cycle, where it goes on with none of a set or an answer
+  pub seat_in_cycle_after_giving : (now : Seat) → SameAnswer (seat_at state number) now → IsApart now.point
       → SeatInCycle heap words_given (phase book_given.history) (last_answer number book_given.history) (has_left number book_given.history) owner book.colour number now
   seat_in_cycle_after_giving now same apart =
       let cycle = (rule.seats_stand number here).cycle in
@@ -108,7 +108,7 @@ module _ (heap : Heap) (state : State) (book : Book) (number : ℕ) (rule : Rule
       (answer_same_after_control heap state.words word g number (omega (arith, here, rule.machine.limits.seats_fit))) (λ f. was_borne_before Free book.owner fs number f free_bears_none) cycle) refl refl
 
   -- and marking goes on, where it is on no way
-  pub marks_go_on_after_giving : (now : Seat) → now.answered ≡ (seat_at state number).answered → now.registers ≡ (seat_at state number).registers → IsOffWay now.place
+  pub marks_go_on_after_giving : (now : Seat) → now.answered ≡ (seat_at state number).answered → now.registers ≡ (seat_at state number).registers → IsOffWay now.point
       → MarksGoOn heap state book book_given words_given now
   marks_go_on_after_giving now =
       marks_go_on_off_way heap state book rule number here words_given book_given now (leaves_marking_when_handed heap state book rule g word below Free fs (λ f there. ap born_bit (held f there)) (λ i k e. cc) refl)
@@ -131,7 +131,7 @@ module _ (heap : Heap) (state : State) (book : Book) (number : ℕ) (rule : Rule
         address = address_at_stays heap state.words words_given book book_given seat kept_on
             (places_stay_where_same heap state.words words_given (length book.made) book.spines book.spine_owner leaves_spines_after_giving.spines) other.names.way other.names.address;
         gathers = other_giving_gathers_right heap book.owner book.history number fs once inside rule.heap_stands.used (book.begun r) other.told.began.earlier seat.cursor seat.tried seat.given held
-            fits.own.cursor_within (tried_within_groups heap seat seat.place fits.at_place) r apart other.told.gathers;
+            fits.own.cursor_within (tried_within_groups heap seat seat.point fits.at_point) r apart other.told.gathers;
         cycle = seat_in_cycle_after_other heap words_given owner book.colour book.history entry refl r seat
             (seat_in_cycle_after_control heap state.words book.owner owner book.colour book.colour (phase book.history) (last_answer r book.history) (has_left r book.history) r seat g word below
             (omega (arith, under, rule.machine.limits.seats_fit)) (λ f marked. marked) (λ f borne. (was_borne_before Free book.owner fs r f free_bears_none borne, refl)) (watched_is_born heap state book rule r under) other.cycle) away;

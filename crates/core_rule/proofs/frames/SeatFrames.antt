@@ -1,7 +1,7 @@
 -- What stays of a seat at another's step: all of it, where that leaves what the seat has, what it names and what is told of it.
 use Rattle.std.proofs.Common.{◌≡◌, ℕ, ◌<◌, false, List, [], ◌∷◌, ◌++◌, length, filter, drop, get_or, refl, sym, ap, ◌∙◌, subst, arith}
 use Rattle.heap_words.specs.declared.spot.Spot.{Spot}
-use Rattle.core_rule.proofs.Terms.{Entry, Heap, Id, Value, graph_of, is_of, graph_seat, register_value, phase, last_answer, has_left, spent_of, taken_of, Graph, Place, Register, unset}
+use Rattle.core_rule.proofs.Terms.{Entry, Heap, Id, Value, graph_of, is_of, graph_seat, register_value, phase, last_answer, has_left, spent_of, taken_of, Graph, Point, Register, unset}
 use Rattle.core_rule.proofs.Terms.{Seat, Book, SeatInCycle, IsStored, GathersRight, Began, UsedStands, node_at, IsKept, Owner, SpineOwner, Registers, AddressStands, NamesStand}
 use Rattle.core_rule.proofs.Terms.{SeatStands, WayStands}
 use Rattle.heap_model.specs.declared.id.Value.TheVariants as values
@@ -26,7 +26,7 @@ pub record SameParty (g now : Graph) (r : ℕ) : Type 0 where
   pub sets : (graph_seat now r).sets ≡ (graph_seat g r).sets
   pub left : (graph_seat now r).left ≡ (graph_seat g r).left
 
--- so it is where its part of the graph is the same
+-- so it is where what the graph has of it is the same
 pub same_party_of_same_graph : (g now : Graph) (r : ℕ) → graph_seat now r ≡ graph_seat g r → SameParty g now r
 same_party_of_same_graph g now r same = record {
   registers = ap (λ (p : GraphSeat). p.registers) same;
@@ -43,12 +43,12 @@ pub record SameTold (r : ℕ) (history later : List Entry) : Type 0 where
   pub own : filter (is_of r) later ≡ filter (is_of r) history
   pub spent : spent_of r later ≡ spent_of r history
   pub taken : taken_of r later ≡ taken_of r history
-  pub began : (begun : ℕ) (place : Place) → Began history r begun place → Began later r begun place
-  pub used : (heap : Heap) (seat : Seat) (place : Place) → UsedStands heap history r seat place → UsedStands heap later r seat place
+  pub began : (begun : ℕ) (point : Point) → Began history r begun point → Began later r begun point
+  pub used : (heap : Heap) (seat : Seat) (point : Point) → UsedStands heap history r seat point → UsedStands heap later r seat point
 
 -- so it is where nothing is added
 pub seat_told_same_without_entry : (r : ℕ) (history : List Entry) → SameTold r history history
-seat_told_same_without_entry r history = record { own = refl; spent = refl; taken = refl; began = λ begun place began. began; used = λ heap seat place used. used }
+seat_told_same_without_entry r history = record { own = refl; spent = refl; taken = refl; began = λ begun point began. began; used = λ heap seat point used. used }
 
 -- and where an entry of another is
 pub seat_told_same_after_other : (r : ℕ) (history : List Entry) (entry : Entry) → is_of r entry ≡ false → SameTold r history (history ++ entry ∷ [])
@@ -56,8 +56,8 @@ seat_told_same_after_other r history entry other = record {
   own = own_entries_stay_by_other r history entry other;
   spent = rw (total_of_stays_by_other r (λ e. e.given) history entry other, total_of_stays_by_other r (λ e. e.born) history entry other) refl;
   taken = total_of_stays_by_other r (λ e. e.taken) history entry other;
-  began = λ begun place began. began_after_other_entry history entry r begun place other began;
-  used = λ heap seat place used. used_stands_after_other_entry heap r history entry other seat place used;
+  began = λ begun point began. began_after_other_entry history entry r begun point other began;
+  used = λ heap seat point used. used_stands_after_other_entry heap r history entry other seat point used;
 }
 
 -- what is kept stays kept, by the same names and in the same fragments
@@ -82,23 +82,23 @@ kept_shapes g now made owner fragments shapes = record {
 }
 
 -- so registers hold what they held
-pub registers_stay_with_owners : (owner now : ℕ → Owner) → SameKept owner now → (made : List Id) (fragments : ℕ → List ℕ) (g : Graph) (number : ℕ) (held : List Register) (place : Place) (d : ℕ)
-    → Registers g made owner fragments number held place d → Registers g made now fragments number held place d
-registers_stay_with_owners owner now same made fragments g number held place d old =
+pub registers_stay_with_owners : (owner now : ℕ → Owner) → SameKept owner now → (made : List Id) (fragments : ℕ → List ℕ) (g : Graph) (number : ℕ) (held : List Register) (point : Point) (d : ℕ)
+    → Registers g made owner fragments number held point d → Registers g made now fragments number held point d
+registers_stay_with_owners owner now same made fragments g number held point d old =
     λ r fresh. holds_value_still made made owner now fragments fragments (kept_stays_with_owners g made owner now fragments same).names _ _ (old r fresh)
 
 -- the place that a seat's call has loaded is right by the book
-abbrev pub AddressAt : Heap → List ℕ → Book → Seat → Place → Type 0
+abbrev pub AddressAt : Heap → List ℕ → Book → Seat → Point → Type 0
 AddressAt heap words book seat = AddressStands heap words (node_at (graph_of heap book.history) book.made) book.owner book.fragments book.spines book.spine_owner seat
 
 -- so it is where what is kept stays kept, with its spine
 pub address_at_stays : (heap : Heap) (words now_words : List ℕ) (book now : Book) (seat : Seat)
     → KeptStays (graph_of heap book.history) (graph_of heap now.history) book.made now.made book.owner now.owner book.fragments now.fragments
     → PlacesStay heap words now_words (length book.made) book.spines now.spines book.spine_owner now.spine_owner
-    → WayStands (node_at (graph_of heap book.history) book.made) book.made book.owner book.fragments seat seat.place → AddressAt heap words book seat seat.place → AddressAt heap now_words now seat seat.place
+    → WayStands (node_at (graph_of heap book.history) book.made) book.made book.owner book.fragments seat seat.point → AddressAt heap words book seat seat.point → AddressAt heap now_words now seat seat.point
 address_at_stays heap words now_words book now seat kept places =
     address_stands_still heap words now_words (node_at (graph_of heap book.history) book.made) (node_at (graph_of heap now.history) now.made) book.made now.made book.owner now.owner
-    book.fragments now.fragments book.spines now.spines book.spine_owner now.spine_owner places kept.objects seat seat.place
+    book.fragments now.fragments book.spines now.spines book.spine_owner now.spine_owner places kept.objects seat seat.point
 
 -- what a seat names stands where no more than words change, and no spine word
 pub names_stand_with_words : (heap : Heap) (words now : List ℕ) → SameSpines heap words now → (g : Graph) (made : List Id) (owner : ℕ → Owner) (fragments : ℕ → List ℕ) (spines : ℕ → Spot) (spine_owner : ℕ → ℕ → SpineOwner)
@@ -106,7 +106,7 @@ pub names_stand_with_words : (heap : Heap) (words now : List ℕ) → SameSpines
 names_stand_with_words heap words now same g made owner fragments spines spine_owner number seat old = record {
   registers = old.registers;
   way = old.way;
-  address = address_stands_with_words heap words now same (node_at g made) owner fragments spines spine_owner seat seat.place old.address;
+  address = address_stands_with_words heap words now same (node_at g made) owner fragments spines spine_owner seat seat.point old.address;
 }
 
 -- what a step of another leaves of a seat
@@ -119,7 +119,7 @@ pub record LeavesSeat (heap : Heap) (words : List ℕ) (book now : Book) (r : �
   pub stored : IsStored heap words r seat
   pub spines : SpinesLeft r book.spine_owner now.spine_owner
   pub spine_stored : SpineIsStored heap words seat
-  pub address : AddressAt heap words now seat seat.place
+  pub address : AddressAt heap words now seat seat.point
   pub gathers : GathersRight heap now.owner r (drop (book.begun r) now.history) seat.cursor seat.tried seat.given
   pub cycle : SeatInCycle heap words (phase now.history) (last_answer r now.history) (has_left r now.history) now.owner now.colour r seat
 
@@ -140,7 +140,7 @@ seat_stands_where_left_alone heap words now_words book now r seat leaves old =
       names = record {
         registers = λ i awake. subst (regs.HoldsValue now.made now.owner now.fragments (get_or seat.registers i registers.Nil)) (sym (same i))
             (holds_value_still book.made now.made book.owner now.owner book.fragments now.fragments leaves.kept.names _ _ (old.names.registers i awake));
-        way = way_stands_still (node_at g book.made) (node_at after now.made) book.made now.made book.owner now.owner book.fragments now.fragments leaves.kept.objects seat seat.place old.names.way;
+        way = way_stands_still (node_at g book.made) (node_at after now.made) book.made now.made book.owner now.owner book.fragments now.fragments leaves.kept.objects seat seat.point old.names.way;
         address = leaves.address;
       };
       told = rw leaves.calls record {
@@ -151,9 +151,9 @@ seat_stands_where_left_alone heap words now_words book now r seat leaves old =
           leaves = leaves.party.left ∙ old.told.counts.leaves;
           unborn = omega (arith, old.told.counts.unborn, leaves.told.spent, leaves.told.taken);
         };
-        began = leaves.told.began (book.begun r) seat.place old.told.began;
+        began = leaves.told.began (book.begun r) seat.point old.told.began;
         gathers = leaves.gathers;
-        used = leaves.told.used heap seat seat.place old.told.used;
+        used = leaves.told.used heap seat seat.point old.told.used;
       };
       cycle = leaves.cycle;
     }

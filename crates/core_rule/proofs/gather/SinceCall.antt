@@ -9,7 +9,7 @@ sum_dropped f zero history = omega arith
 sum_dropped f (suc n) [] = omega arith
 sum_dropped f (suc n) (entry ∷ history) = rw (sum_by-cons f entry history) (omega (arith, sum_dropped f n history))
 
--- where no entry of the end passes the test, the end is a part of what comes after the last that does
+-- where no entry of the end passes the test, the end is a section of what comes after the last that does
 sum_after_last : (test : Entry → Bool) (f : Entry → ℕ) (n : ℕ) (history : List Entry) → list_any test (drop n history) ≡ false
     → sum_by f (drop n history) ≤ sum_by f (after_last test history)
 sum_after_last test f zero [] none = omega arith

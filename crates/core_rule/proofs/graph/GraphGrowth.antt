@@ -35,7 +35,7 @@ module _ (g : Graph) (number d : ℕ) (object : Node) (present : (graph_seat g n
   abbrev pub grown_party : GraphSeat
   grown_party = record (graph_seat g number) { registers = set (graph_seat g number).registers d (unseen (values.Object (Made number (length (graph_seat g number).objects)))); objects = (graph_seat g number).objects ++ object ∷ [] }
 
-  -- the seat's own part of the graph, and the others'
+  -- what the graph has of the seat itself, and of the others
   party_same : graph_seat (add g number d object) number ≡ grown_party
   party_same = get_or-set_same g.seats number grown_party absent_graph_seat (present_seat_within_graph g number present)
 

@@ -26,33 +26,33 @@ alike_then one other third alike then_ = record {
 
 -- so with graphs
 pub agree_on_reversed : (number : ℕ) (one other : Graph) → AgreeOn number one other → AgreeOn number other one
-agree_on_reversed number one other agrees = record { places = sym agrees.places; board = sym agrees.board; seat = alike_back _ _ agrees.seat }
+agree_on_reversed number one other agrees = record { positions = sym agrees.positions; board = sym agrees.board; seat = alike_back _ _ agrees.seat }
 
 pub agree_on_composed : (number : ℕ) (one other third : Graph) → AgreeOn number one other → AgreeOn number other third → AgreeOn number one third
 agree_on_composed number one other third agrees then_ =
-    record { places = agrees.places ∙ then_.places; board = agrees.board ∙ then_.board; seat = alike_then _ _ _ agrees.seat then_.seat }
+    record { positions = agrees.positions ∙ then_.positions; board = agrees.board ∙ then_.board; seat = alike_then _ _ _ agrees.seat then_.seat }
 
 pub agree_on_itself : (number : ℕ) (g : Graph) → AgreeOn number g g
-agree_on_itself number g = record { places = refl; board = refl; seat = alike_same (graph_seat g number) }
+agree_on_itself number g = record { positions = refl; board = refl; seat = alike_same (graph_seat g number) }
 
 -- the seat is another one in both, each like the other
 pub agree_on_same_seat_change : (number : ℕ) (one other : Graph) (p q : GraphSeat) → AgreeOn number one other → AreAlike p q → AgreeOn number (with_graph_seat one number p) (with_graph_seat other number q)
 agree_on_same_seat_change number one other p q agrees alike = record {
-  places = length-set one.seats number p ∙ agrees.places ∙ sym (length-set other.seats number q);
+  positions = length-set one.seats number p ∙ agrees.positions ∙ sym (length-set other.seats number q);
   board = agrees.board;
   seat = elim (cases_lt number (length one.seats)) [
     | inl there ↦ subst (λ x. AreAlike x (graph_seat (with_graph_seat other number q) number)) (sym (get_or-set_same one.seats number p absent_graph_seat there))
-        (subst (AreAlike p) (sym (get_or-set_same other.seats number q absent_graph_seat (omega (arith, there, agrees.places)))) alike)
+        (subst (AreAlike p) (sym (get_or-set_same other.seats number q absent_graph_seat (omega (arith, there, agrees.positions)))) alike)
     | inr past ↦ subst (λ x. AreAlike x (graph_seat (with_graph_seat other number q) number))
         (sym (get_or_past (set one.seats number p) number absent_graph_seat (omega (arith, past, length-set one.seats number p))))
-        (subst (AreAlike absent_graph_seat) (sym (get_or_past (set other.seats number q) number absent_graph_seat (omega (arith, past, agrees.places, length-set other.seats number q)))) (alike_same absent_graph_seat))
+        (subst (AreAlike absent_graph_seat) (sym (get_or_past (set other.seats number q) number absent_graph_seat (omega (arith, past, agrees.positions, length-set other.seats number q)))) (alike_same absent_graph_seat))
   ];
 }
 
 -- another seat is another one in one of them
 pub agree_on_with_other_seat : (number other : ℕ) (g : Graph) (p : GraphSeat) → number ≢ other → AgreeOn number g (with_graph_seat g other p)
 agree_on_with_other_seat number other g p apart = record {
-  places = sym (length-set g.seats other p);
+  positions = sym (length-set g.seats other p);
   board = refl;
   seat = subst (AreAlike (graph_seat g number)) (sym (get_or-set_other g.seats other number p absent_graph_seat apart)) (alike_same (graph_seat g number));
 }
@@ -72,7 +72,7 @@ cell_alike p count i cell = record {
 pub agree_on_after_write : (number : ℕ) (g : Graph) (value : Value) (i : ℕ) (cell : Cell) → AgreeOn number g (write g value i cell)
 agree_on_after_write number g Nil i cell = agree_on_itself number g
 agree_on_after_write number g (Number n) i cell = agree_on_itself number g
-agree_on_after_write number g (Object Board) i cell = record { places = refl; board = sym (cell_shape g.board i cell); seat = alike_same (graph_seat g number) }
+agree_on_after_write number g (Object Board) i cell = record { positions = refl; board = sym (cell_shape g.board i cell); seat = alike_same (graph_seat g number) }
 agree_on_after_write number g (Object (Made other count)) i cell = elim (cases_eq number other) [
   | inl same ↦ subst (λ n. AgreeOn n g (with_graph_seat g other (with_object_cell (graph_seat g other) count i cell))) (sym same) its
   | inr apart ↦ agree_on_with_other_seat number other g (with_object_cell (graph_seat g other) count i cell) apart
@@ -81,13 +81,13 @@ agree_on_after_write number g (Object (Made other count)) i cell = elim (cases_e
     its : AgreeOn other g (with_graph_seat g other (with_object_cell (graph_seat g other) count i cell))
     its = elim (cases_lt other (length g.seats)) [
       | inl there ↦ record {
-        places = sym (length-set g.seats other (with_object_cell (graph_seat g other) count i cell));
+        positions = sym (length-set g.seats other (with_object_cell (graph_seat g other) count i cell));
         board = refl;
         seat = subst (AreAlike (graph_seat g other)) (sym (get_or-set_same g.seats other (with_object_cell (graph_seat g other) count i cell) absent_graph_seat there))
             (cell_alike (graph_seat g other) count i cell);
       }
       | inr past ↦ record {
-        places = sym (length-set g.seats other (with_object_cell (graph_seat g other) count i cell));
+        positions = sym (length-set g.seats other (with_object_cell (graph_seat g other) count i cell));
         board = refl;
         seat = subst (AreAlike (graph_seat g other))
             (get_or_past g.seats other absent_graph_seat past

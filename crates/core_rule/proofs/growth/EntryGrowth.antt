@@ -26,7 +26,7 @@ pub record HasCell (g : Graph) (value : Value) (i : ℕ) (cell : Cell) : Type 0 
   pub object : Node
   pub refers : value ≡ Object id
   pub there : node g id ≡ Some object
-  pub at_place : slice_get object.cells i ≡ Some cell
+  pub at_position : slice_get object.cells i ≡ Some cell
 
 -- where the reply to a get or a set is no refusal, there is the cell
 abbrev TellsOfCell : Graph → Value → ℕ → Reply → (Cell → Reply → Type 0) → Type 0
@@ -41,7 +41,7 @@ found_cell g (Object id) i reply P object field tells = by (node g id) refl tell
     at_field : (o : Node) (c : Option Cell) → node g id ≡ Some o → slice_get o.cells i ≡ c
         → MatchResult (or_no_field c) (λ cell. P cell reply) (λ refusal. reply ≡ refusal) → (cell : Cell) × HasCell g (Object id) i cell × P cell reply
     at_field o None is none tells = absurd (field tells)
-    at_field o (Some cell) is some tells = (cell, record { id = id; object = o; refers = refl; there = is; at_place = some }, tells)
+    at_field o (Some cell) is some tells = (cell, record { id = id; object = o; refers = refl; there = is; at_position = some }, tells)
 
     by : (o : Option Node) → node g id ≡ o → MatchResult (cell_or_refusal o i) (λ cell. P cell reply) (λ refusal. reply ≡ refusal) → (cell : Cell) × HasCell g (Object id) i cell × P cell reply
     by None is tells = absurd (object tells)
@@ -51,7 +51,7 @@ found_cell g (Object id) i reply P object field tells = by (node g id) refl tell
 points_there : (g : Graph) (value : Value) (i : ℕ) (cell : Cell) (has : HasCell g value i cell) (id : Id) → cell.value ≡ Object id → Points g has.id id
 points_there g value i cell has id is =
     subst (λ (o : Option Node). IsSomeAnd o (λ x. PointsTo x id)) (sym has.there)
-    (i, cell, slice_get_within has.object.cells i cell has.at_place, get_or_from_slice_get has.object.cells i cell cell has.at_place, is)
+    (i, cell, slice_get_within has.object.cells i cell has.at_position, get_or_from_slice_get has.object.cells i cell cell has.at_position, is)
 
 module _ (g : Graph) (number : ℕ) (present : IsPresent g number) where
   -- what was got was read

@@ -36,7 +36,7 @@ reach_after_all g (entry ∷ history) accepts id made reached =
       | inr unmade ↦ absurd (unmade made)
     ]
 
--- the graph accepts the later part of a history after the earlier one
+-- the graph accepts the later section of a history after the earlier one
 pub accepts_later : (g : Graph) (history later : List Entry) → AcceptsAll g (history ++ later) → AcceptsAll (graph_after g history) later
 accepts_later g [] later accepts = accepts
 accepts_later g (entry ∷ history) later accepts = accepts_later (after_entry g entry) history later accepts.1

@@ -12,7 +12,7 @@ use Rattle.heap_model.specs.declared.id.Value.TheVariants.{Nil, Number, Object}
 use Rattle.heap_model.specs.declared.reply.Reply.TheVariants as replies
 use Rattle.heap_model.specs.graph.Graph.{GraphSeat, unseen}
 use Rattle.core_rule.proofs.entries.Others.{seat_is_not_other}
-use Rattle.core_rule.specs.growth.OwnGraphs.{Shape, shape_of, AgreeOn, EachOwnGraphIsPart}
+use Rattle.core_rule.specs.growth.OwnGraphs.{Shape, shape_of, AgreeOn, EachOwnGraphIsWithin}
 use Rattle.core_rule.proofs.growth.AgreeingGraphs.{agree_on_itself, agree_on_reversed, agree_on_composed, agree_on_same_seat_change, agree_on_with_other_seat, agree_on_after_write}
 use Rattle.heap_model.specs.declared.graph.cell.Cell.{Cell}
 use Rattle.heap_model.specs.graph.Objects.{register_cell}
@@ -142,9 +142,9 @@ none_at_opening heap other = elim (cases_lt other heap.seats) [
   | inr past ↦ ap (λ (p : GraphSeat). p.objects) (get_or_past (replicate heap.seats opening_graph_seat) other absent_graph_seat (omega (arith, past, length-replicate heap.seats opening_graph_seat)))
 ]
 
-pub each_own_graph_is_part : EachOwnGraphIsPart
-unfolding EachOwnGraphIsPart
-each_own_graph_is_part heap history number = record {
+pub each_own_graph_is_within : EachOwnGraphIsWithin
+unfolding EachOwnGraphIsWithin
+each_own_graph_is_within heap history number = record {
   agrees = agree_after number (opening heap) (opening heap) history (agree_on_itself number (opening heap));
   others = λ other apart. none_after number other (opening heap) history apart (none_at_opening heap other);
 }

@@ -28,7 +28,7 @@ module _ (nodes now_nodes : ℕ → Node) (made now_made : List Id) (owner now_o
       record { index = is.index; kept = one.kept; is_array = one.shape.kind ∙ is.is_array; as_many = is.as_many ∙ sym (same_shape_same_words (now_nodes is.index) (nodes is.index) one.shape) }
 
   marked_go : (visit : Visit) → VisitIsMarked colour visit → VisitIsMarked now_colour visit
-  marked_go visit are place set = marked (16 * visit.group + place) (are place set)
+  marked_go visit are position set = marked (16 * visit.group + position) (are position set)
 
   abbrev found_go : (array : ArrayAt) → HasFoundArray nodes made owner colour array → HasFoundArray now_nodes now_made now_owner now_colour array
   found_go array is = record {

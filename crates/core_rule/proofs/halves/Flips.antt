@@ -1,7 +1,7 @@
 -- The flip: the next spine's place is the first word of the other half, and all that stands is left behind.
 use Rattle.std.proofs.Common.{◌≡◌, ◌≢◌, ℕ, ◌*◌, ◌/◌, ◌%◌, ◌<◌, ◌==◌, ◌⊎◌, if◌then◌else◌, true, List, length, inl, inr, refl, sym, ap, ◌∙◌, subst, arith}
 use Rattle.std.proofs.lemmas.Bool.Decides.{nat_tests}
-use Rattle.core_rule.proofs.Terms.{cycle_phases, spot_in, spot_word, Command, Heap, spine_need_of, IsMarking, Listing, Bearing, Place, State, seat_at, IsArrayCall, Seat, Book}
+use Rattle.core_rule.proofs.Terms.{cycle_phases, spot_in, spot_word, Command, Heap, spine_need_of, IsMarking, Listing, Bearing, Point, State, seat_at, IsArrayCall, Seat, Book}
 use Rattle.core_rule.proofs.Terms.{BudgetsStand, of_seats, placed_at, placed_words, kept_weight, kept_sum, words_in_half, nodes_in, returning, HalvesStand, AwaitsCopy}
 use Rattle.core_rule.proofs.Terms.{IsBeforeNext, IsLeaving, IsLeftBehind, IsKept, Owner, Kept, Rule, SpaceStands, HasPlace, next_spine}
 use Rattle.heap_model.specs.PhasePlan.{marking as marking_phase}
@@ -10,8 +10,8 @@ use Rattle.heap_model.specs.declared.command.Command.TheVariants.{Array}
 use Rattle.core_machine.specs.collector.Collector.{next_half}
 use Rattle.core_machine.specs.collector.FitsTurns.{FitsStage}
 use Rattle.core_machine.specs.declared.collector.stage.Stage.TheVariants as stages
-use Rattle.core_machine.specs.declared.place.Making.TheVariants.{Storing}
-use Rattle.core_machine.specs.declared.place.Place.TheVariants as places
+use Rattle.core_machine.specs.declared.point.Making.TheVariants.{Storing}
+use Rattle.core_machine.specs.declared.point.Point.TheVariants as points
 use Rattle.core_machine.proofs.table_lemmas.Free.{sum_of_nothing_is_zero}
 use Rattle.core_rule.proofs.entries.AtRest.{seat_fits}
 use Rattle.core_rule.proofs.marking.Marks.{each_seat_answered_phase}
@@ -28,10 +28,10 @@ command_away : (command : Command) (half other : ℕ) → (IsArrayCall command �
 command_away (Array d cells) half other away = grind (arith, nat_tests, away tt)
 command_away _ half other away = grind (arith, nat_tests)
 
-placed_away : (half : ℕ) (seat : Seat) (place : Place) → (HasPlace seat place → seat.spine.half ≢ half) → placed_at half seat place ≡ 0
-placed_away half seat (places.Making Listing) away = command_away seat.command seat.spine.half half away
-placed_away half seat (places.Making Storing) away = command_away seat.command seat.spine.half half away
-placed_away half seat (places.Making Bearing) away = command_away seat.command seat.spine.half half away
+placed_away : (half : ℕ) (seat : Seat) (point : Point) → (HasPlace seat point → seat.spine.half ≢ half) → placed_at half seat point ≡ 0
+placed_away half seat (points.Making Listing) away = command_away seat.command seat.spine.half half away
+placed_away half seat (points.Making Storing) away = command_away seat.command seat.spine.half half away
+placed_away half seat (points.Making Bearing) away = command_away seat.command seat.spine.half half away
 placed_away half seat _ away = refl
 
 -- what is kept has no words in a half in which none of it stands
@@ -85,13 +85,13 @@ module _ (heap : Heap) (state : State) (book : Book) (rule : Rule heap state boo
   stand_before : (i : ℕ) → i < length book.made → IsKept book.owner book.fragments i → (nodes_in heap book i).array ≡ true → (book.spines i).half ≡ next.half
   stand_before = arrays_in_next_spine_half heap state book rule.space.halves (λ f waits. subst (λ stage. AwaitsCopy p stage f) flipping waits)
 
-  hand_before : (r : ℕ) → r < heap.seats → HasPlace (seat_at state r) (seat_at state r).place → (seat_at state r).spine.half ≡ next.half
+  hand_before : (r : ℕ) → r < heap.seats → HasPlace (seat_at state r) (seat_at state r).point → (seat_at state r).spine.half ≡ next.half
   hand_before r below = seat_spine_in_next_half heap state book rule.space.halves r below (λ early. before_flip early.leaving)
 
   -- in the other half nothing stands
   none_placed : of_seats heap state (placed_at (next_half p)) ≡ 0
-  none_placed = sum_of_nothing_is_zero heap.seats (λ r. placed_at (next_half p) (seat_at state r) (seat_at state r).place)
-      (λ r below. placed_away (next_half p) (seat_at state r) (seat_at state r).place (λ has. half_apart (seat_at state r).spine.half (hand_before r below has)))
+  none_placed = sum_of_nothing_is_zero heap.seats (λ r. placed_at (next_half p) (seat_at state r) (seat_at state r).point)
+      (λ r below. placed_away (next_half p) (seat_at state r) (seat_at state r).point (λ has. half_apart (seat_at state r).spine.half (hand_before r below has)))
 
   none_kept : kept_sum heap (words_in_half (next_half p) (nodes_in heap book) book.spines) book.owner ≡ 0
   none_kept = sum_of_nothing_is_zero (16 * heap.groups) (λ f. kept_weight (words_in_half (next_half p) (nodes_in heap book) book.spines) (book.owner f))
@@ -114,7 +114,7 @@ module _ (heap : Heap) (state : State) (book : Book) (rule : Rule heap state boo
       }
 
   -- a seat that has the place of a spine has answered the phase of marking
-  has_answered : (r : ℕ) → r < heap.seats → HasPlace (seat_at state r) (seat_at state r).place → (seat_at state r).answered % cycle_phases ≡ marking_phase
+  has_answered : (r : ℕ) → r < heap.seats → HasPlace (seat_at state r) (seat_at state r).point → (seat_at state r).answered % cycle_phases ≡ marking_phase
   has_answered r below has = ap (λ n. n % cycle_phases) (each_seat_answered_phase heap state book rule fits.all r below (placed_seat_has_not_left heap (seat_at state r) (seat_fits rule r below) has)) ∙ flip_phase_is_marking
 
   -- what stood before the next spine is left behind

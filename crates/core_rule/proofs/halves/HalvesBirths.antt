@@ -46,13 +46,13 @@ pub record OneBorn (heap : Heap) (book now : Book) (number : ℕ) (seat : Seat) 
   pub heads : (f i : ℕ) → book.owner f ≡ Kept i 0
       → HeadStays (nodes_in heap book) (nodes_in heap now) book.made now.made now.owner book.fragments now.fragments book.spines now.spines f i
   pub spine : now.spines (length book.made) ≡ seat.spine
-  pub has : (nodes_in heap now (length book.made)).array ≡ true → HasPlace seat seat.place
+  pub has : (nodes_in heap now (length book.made)).array ≡ true → HasPlace seat seat.point
   pub swung : (id : Id) → HasSwung id now.history → HasSwung id book.history
   pub unswung : ¬ HasSwung (id_at now.made (length book.made)) book.history
   pub marked : (f : ℕ) → IsMarked book.colour f → IsMarked now.colour f
 
 module _ (heap : Heap) (state : State) (book now : Book) (number : ℕ) (words : List ℕ) (after : Seat) (here : number < heap.seats) (seated : length state.seats ≡ heap.seats)
-    (leaves : LeavesPlaces heap state.words words) (born : OneBorn heap book now number (seat_at state number)) (none : ¬ HasPlace after after.place)
+    (leaves : LeavesPlaces heap state.words words) (born : OneBorn heap book now number (seat_at state number)) (none : ¬ HasPlace after after.point)
     (awaits : IsEarlyRange state.collector.phase state.collector.stage (seat_at state number).answered → (f : ℕ) → AwaitsCopy state.collector.phase state.collector.stage f)
     (old : HalvesStand heap state book) where
   abbrev n : ℕ

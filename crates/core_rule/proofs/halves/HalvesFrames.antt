@@ -31,7 +31,7 @@ if_some_of_each (Some a) f is = f a is
 
 -- the seat's spine stands in the half of the next spine, or was claimed before the flip
 abbrev pub InItsHalf : Heap → State → ℕ → Seat → Type 0
-InItsHalf heap state number seat = HasPlace seat seat.place → (seat.spine.half ≡ (next_spine heap state.words).half) ⊎ IsEarlyRange state.collector.phase state.collector.stage seat.answered
+InItsHalf heap state number seat = HasPlace seat seat.point → (seat.spine.half ≡ (next_spine heap state.words).half) ⊎ IsEarlyRange state.collector.phase state.collector.stage seat.answered
 
 module _ (heap : Heap) (book now : Book) (grants : SameGrants heap book now) where
   -- the same arrays are kept, with the same spines
@@ -165,7 +165,7 @@ abbrev pub IsPlain : Stage → Type 0
 IsPlain stages.Looking = ⊥
 IsPlain stages.Advancing = ⊥
 IsPlain (stages.Copying stage) = ⊥
-IsPlain (stages.Examining group dead place counted) = ⊥
+IsPlain (stages.Examining group dead position counted) = ⊥
 IsPlain (stages.Freeing group dead counted) = ⊥
 IsPlain (stages.Returning group counted) = ⊥
 IsPlain _ = Unit {0}

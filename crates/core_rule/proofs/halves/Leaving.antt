@@ -12,7 +12,7 @@ marking_is_not_leaving phase stage third before (inr (inl copies)) = omega (arit
 marking_is_not_leaving phase stage third before (inr (inr sweeps)) = omega (arith, third, sweeps)
 
 -- a seat that has the place of a spine hasn't left
-pub placed_seat_has_not_left : (heap : Heap) (seat : Seat) → Fits heap seat → HasPlace seat seat.place → seat.left ≡ false
+pub placed_seat_has_not_left : (heap : Heap) (seat : Seat) → Fits heap seat → HasPlace seat seat.point → seat.left ≡ false
 placed_seat_has_not_left heap seat fits has = by seat.left refl
   where
     by : (left : Bool) → seat.left ≡ left → seat.left ≡ false
@@ -38,7 +38,7 @@ module _ (heap : Heap) (state : State) (book : Book) (halves : HalvesStand heap 
   ]
 
   -- and so does the spine of a seat that claimed it since the flip, or while no half is left
-  pub seat_spine_in_next_half : (r : ℕ) → r < heap.seats → ¬ IsEarlyRange state.collector.phase state.collector.stage (seat_at state r).answered → HasPlace (seat_at state r) (seat_at state r).place
+  pub seat_spine_in_next_half : (r : ℕ) → r < heap.seats → ¬ IsEarlyRange state.collector.phase state.collector.stage (seat_at state r).answered → HasPlace (seat_at state r) (seat_at state r).point
       → (seat_at state r).spine.half ≡ (next_spine heap state.words).half
   seat_spine_in_next_half r below late has = elim (halves.hands r below has) as (λ _. (seat_at state r).spine.half ≡ (next_spine heap state.words).half) [
     | inl here ↦ here

@@ -2,7 +2,7 @@
 use Rattle.std.proofs.Common.{◌≡◌, ◌≢◌, ℕ, ◌+◌, ◌<◌, ◌==◌, ◌⊎◌, if◌then◌else◌, Bool, true, false, List, inl, inr, refl, sym, ◌∙◌, arith}
 use Rattle.std.proofs.lemmas.Bool.Decides.{eqb_tells}
 use Rattle.heap_words.specs.declared.spot.Spot.{Spot}
-use Rattle.core_rule.proofs.Terms.{Heap, Node, spine_words_of, Place, Seat, IsBetween, IsKept, Owner, SpineOwner, Open, Placed, Spined, IsLeftReplica, AddressStands, SpinesStand}
+use Rattle.core_rule.proofs.Terms.{Heap, Node, spine_words_of, Point, Seat, IsBetween, IsKept, Owner, SpineOwner, Open, Placed, Spined, IsLeftReplica, AddressStands, SpinesStand}
 use Rattle.core_rule.proofs.Terms.{SpineInHand, HasPlace}
 use Rattle.core_rule.proofs.ways.LoadedPlaces.{while_loaded_goes_on}
 
@@ -53,7 +53,7 @@ module _ (here : ℕ) (spine_owner : ℕ → ℕ → SpineOwner) where
             by false is within = let none : spine_words_of object ≡ 0 = rw is refl in absurd (omega (arith, none, within))
 
     -- so does the spine of a seat that stands in this half
-    pub hand_spine_after_letting_go : (number : ℕ) (seat : Seat) → (HasPlace seat seat.place → seat.spine.half ≡ here) → SpineInHand heap words spine_owner number seat
+    pub hand_spine_after_letting_go : (number : ℕ) (seat : Seat) → (HasPlace seat seat.point → seat.spine.half ≡ here) → SpineInHand heap words spine_owner number seat
         → SpineInHand heap words (let_go here spine_owner) number seat
     hand_spine_after_letting_go number seat stands old = record {
       placed = λ has j less. here_stays seat.spine.half (seat.spine.offset + j) (stands has) ∙ old.placed has j less;
@@ -62,9 +62,9 @@ module _ (here : ℕ) (spine_owner : ℕ → ℕ → SpineOwner) where
     }
 
     -- and the place that a seat has loaded which has answered since
-    pub address_stands_after_letting_go : (nodes : ℕ → Node) (owner : ℕ → Owner) (fragments : ℕ → List ℕ) (spines : ℕ → Spot) (seat : Seat) (place : Place) → ¬ IsBetween 3 4 seat.answered
-        → AddressStands heap words nodes owner fragments spines spine_owner seat place → AddressStands heap words nodes owner fragments spines (let_go here spine_owner) seat place
-    address_stands_after_letting_go nodes owner fragments spines seat place late = while_loaded_goes_on place (λ has reads i f calls is an_array.
+    pub address_stands_after_letting_go : (nodes : ℕ → Node) (owner : ℕ → Owner) (fragments : ℕ → List ℕ) (spines : ℕ → Spot) (seat : Seat) (point : Point) → ¬ IsBetween 3 4 seat.answered
+        → AddressStands heap words nodes owner fragments spines spine_owner seat point → AddressStands heap words nodes owner fragments spines (let_go here spine_owner) seat point
+    address_stands_after_letting_go nodes owner fragments spines seat point late = while_loaded_goes_on point (λ has reads i f calls is an_array.
         elim (reads i f calls is an_array) as (λ _. (seat.address ≡ spines i) ⊎ IsLeftReplica heap words (nodes i) (fragments i) (let_go here spine_owner) seat.answered seat.address) [
           | inl own ↦ inl own
           | inr replica ↦ absurd (late replica.late)

@@ -81,7 +81,7 @@ module _ (heap : Heap) (state : State) (book : Book) (rule : Rule heap state boo
     (graph : graph_of heap (book.history ++ entry ∷ []) ≡ graph_of heap book.history) (words : List ℕ) (leaves : LeavesSpines heap state.words words) (log : List Entry)
     (spine_owner : ℕ → ℕ → SpineOwner) (lets : LetsGo (next_spine heap state.words).half state.collector.phase book.spine_owner spine_owner)
     (alive : state.collector.phase % cycle_phases ≡ sweep_phase → (f i k : ℕ) → book.owner f ≢ Dead i k)
-    (answered : state.collector.phase % cycle_phases ≡ sweep_phase → (r : ℕ) → r < heap.seats → HasPlace (seat_at state r) (seat_at state r).place → (seat_at state r).answered % cycle_phases ≡ sweep_phase) where
+    (answered : state.collector.phase % cycle_phases ≡ sweep_phase → (r : ℕ) → r < heap.seats → HasPlace (seat_at state r) (seat_at state r).point → (seat_at state r).answered % cycle_phases ≡ sweep_phase) where
   abbrev p : ℕ
   p = state.collector.phase
 
@@ -155,7 +155,7 @@ module _ (heap : Heap) (state : State) (book : Book) (rule : Rule heap state boo
     }
   ]
 
-  hands_next : (r : ℕ) → r < heap.seats → HasPlace (seat_at state r) (seat_at state r).place
+  hands_next : (r : ℕ) → r < heap.seats → HasPlace (seat_at state r) (seat_at state r).point
       → ((seat_at state r).spine.half ≡ next.half) ⊎ IsEarlyRange (p + 1) stages.Looking (seat_at state r).answered
   hands_next r below has = elim (rule.space.halves.hands r below has) as (λ _. ((seat_at state r).spine.half ≡ next.half) ⊎ IsEarlyRange (p + 1) stages.Looking (seat_at state r).answered) [
     | inl same ↦ inl same

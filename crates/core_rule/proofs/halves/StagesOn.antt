@@ -103,17 +103,17 @@ quiet_stage_goes_on heap words later now was is phase flip before after awaits c
 
 -- and nothing is counted
 abbrev pub IsIdle : Stage → Type 0
-IsIdle (stages.Examining group dead place counted) = ⊥
+IsIdle (stages.Examining group dead position counted) = ⊥
 IsIdle (stages.Freeing group dead counted) = ⊥
 IsIdle stage = IsQuiet stage
 
 pub idle_is_quiet : (stage : Stage) → IsIdle stage → IsQuiet stage
-idle_is_quiet (stages.Examining group dead place counted) idle = absurd idle
+idle_is_quiet (stages.Examining group dead position counted) idle = absurd idle
 idle_is_quiet (stages.Freeing group dead counted) idle = absurd idle
 idle_is_quiet _ idle = idle
 
 idle_counts : (words : ℕ → ℕ) (owner : ℕ → Owner) (stage : Stage) → IsIdle stage → SweepCounts words owner stage
-idle_counts words owner (stages.Examining group dead place counted) idle = absurd idle
+idle_counts words owner (stages.Examining group dead position counted) idle = absurd idle
 idle_counts words owner (stages.Freeing group dead counted) idle = absurd idle
 idle_counts words owner _ idle = tt
 
@@ -125,7 +125,7 @@ idle_stage_goes_on heap words later now was is phase flip before after awaits =
 -- at a plain stage nothing is, and nothing awaits a copy
 plain_idle : (stage : Stage) → IsPlain stage → IsIdle stage
 plain_idle (stages.Copying stage) plain = absurd plain
-plain_idle (stages.Examining group dead place counted) plain = absurd plain
+plain_idle (stages.Examining group dead position counted) plain = absurd plain
 plain_idle (stages.Freeing group dead counted) plain = absurd plain
 plain_idle (stages.Returning group counted) plain = absurd plain
 plain_idle _ plain = tt

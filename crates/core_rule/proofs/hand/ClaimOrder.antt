@@ -6,12 +6,12 @@ use Rattle.std.proofs.lemmas.List.Elements.{All-append, All-filter, All-weaker, 
 use Rattle.std.proofs.lemmas.List.Kept.{AllPairs-filter}
 use Rattle.std.proofs.lemmas.List.Sums.{suffix_len_is}
 use Rattle.std.proofs.Math.Nat.{mod-eq_of_lt, add-mod_right}
-use Rattle.core_rule.proofs.Terms.{Heap, AreFragments, in_group, out_of_group, part_in, part_out, last_group_of, last_run, run_of, before_run, fragments_gathered, last_claimed}
+use Rattle.core_rule.proofs.Terms.{Heap, AreFragments, in_group, out_of_group, inside_group, outside_group, last_group_of, last_run, run_of, before_run, fragments_gathered, last_claimed}
 use Rattle.core_rule.proofs.Terms.{gather_next, Seat, need}
 use Rattle.core_machine.proofs.seat_lemmas.Fitting.{goes_on_cases}
 use Rattle.core_rule.specs.hand.Together.{claim_rank, InClaims, IsInOrder, AreTogether}
 use Rattle.core_rule.proofs.hand.EmptyHand.{together_where_empty}
-use Rattle.core_rule.proofs.lists.OrderedLists.{pairs_of_front, pairs_of_append, pairs_by_zero_reads, pairs_of_any, group_part_stands_last}
+use Rattle.core_rule.proofs.lists.OrderedLists.{pairs_of_front, pairs_of_append, pairs_by_zero_reads, pairs_of_any, inside_group_stands_last}
 
 -- a group at the start or behind it
 claim_behind : (n s a : ℕ) → s ≤ a → a < n → (a + n - s) % n ≡ a - s
@@ -103,7 +103,7 @@ module _ (heap : Heap) where
       (λ few tried. together)
 
   -- those that aren't given back stay in order
-  pub together_after_giving : (cursor tried g : ℕ) (hand body : List ℕ) → body ≡ [] → AreTogether heap cursor tried hand body → AreTogether heap cursor tried (part_out g hand) body
+  pub together_after_giving : (cursor tried g : ℕ) (hand body : List ℕ) → body ≡ [] → AreTogether heap cursor tried hand body → AreTogether heap cursor tried (outside_group g hand) body
   together_after_giving cursor tried g hand body none together = record {
     gathered = λ e. (
       AllPairs-filter (λ f h. claim_rank heap cursor f ≤ claim_rank heap cursor h) (out_of_group g) hand (together.gathered e).0,
@@ -127,15 +127,15 @@ module _ (heap : Heap) where
         claim_same heap.groups start (get_or hand j 0 / 16) (get_or hand last 0 / 16) below (group j here) (group last (omega (arith, here))) (omega (arith, first, end, same)))
 
     -- so the fragments of the last group are the last ones
-    last_parted : part_out (last_group_of hand) hand ++ part_in (last_group_of hand) hand ≡ hand
-    last_parted = group_part_stands_last (last_group_of hand) hand behind_last
+    last_parted : outside_group (last_group_of hand) hand ++ inside_group (last_group_of hand) hand ≡ hand
+    last_parted = inside_group_stands_last (last_group_of hand) hand behind_last
 
     -- as many as stand behind the others
-    run_length : length hand - last_run hand ≡ length (part_out (last_group_of hand) hand)
+    run_length : length hand - last_run hand ≡ length (outside_group (last_group_of hand) hand)
     run_length =
         let group : ℕ = last_group_of hand in
-        let front : List ℕ = part_out group hand in
-        let back : List ℕ = part_in group hand in
+        let front : List ℕ = outside_group group hand in
+        let back : List ℕ = inside_group group hand in
         let long : length hand ≡ length front + length back = ap length (sym last_parted) ∙ length-append front back in
         let run : last_run hand ≡ length hand - length front =
         suffix_len_is (in_group group) hand (length front) 0 (omega (arith, long))
@@ -146,11 +146,11 @@ module _ (heap : Heap) where
         omega (arith, run, long)
 
     -- they are the last run, and the others those before it
-    run_is : run_of hand ≡ part_in (last_group_of hand) hand
-    run_is = rw run_length (ap (drop _) (sym last_parted) ∙ drop_at (part_out (last_group_of hand) hand) (part_in (last_group_of hand) hand) _ refl)
+    run_is : run_of hand ≡ inside_group (last_group_of hand) hand
+    run_is = rw run_length (ap (drop _) (sym last_parted) ∙ drop_at (outside_group (last_group_of hand) hand) (inside_group (last_group_of hand) hand) _ refl)
 
-    before_is : before_run hand ≡ part_out (last_group_of hand) hand
-    before_is = rw run_length (ap (take _) (sym last_parted) ∙ take_at (part_out (last_group_of hand) hand) (part_in (last_group_of hand) hand) _ refl)
+    before_is : before_run hand ≡ outside_group (last_group_of hand) hand
+    before_is = rw run_length (ap (take _) (sym last_parted) ∙ take_at (outside_group (last_group_of hand) hand) (inside_group (last_group_of hand) hand) _ refl)
 
   module _ (cursor tried : ℕ) (hand body : List ℕ) (within : AreFragments heap hand) (some : 1 ≤ length body) (together : AreTogether heap cursor tried hand body) where
     in_order : IsInOrder heap hand body
@@ -160,25 +160,25 @@ module _ (heap : Heap) where
     in_claims = pairs_of_front (λ f h. claim_rank heap in_order.start f ≤ claim_rank heap in_order.start h) hand in_order.born (subst (InClaims heap in_order.start) in_order.front in_order.ordered)
 
     -- the last run of the hand is what it has of its last group
-    pub last_run_is_last_group : run_of hand ≡ part_in (last_group_of hand) hand
+    pub last_run_is_last_group : run_of hand ≡ inside_group (last_group_of hand) hand
     last_run_is_last_group = run_is in_order.start hand in_order.below within in_claims
 
-    pub before_run_is_other_groups : before_run hand ≡ part_out (last_group_of hand) hand
+    pub before_run_is_other_groups : before_run hand ≡ outside_group (last_group_of hand) hand
     before_run_is_other_groups = before_is in_order.start hand in_order.below within in_claims
 
     -- the others are the first of the body, which stays in order
-    pub born_in_order : IsInOrder heap (part_out (last_group_of hand) hand) body
+    pub born_in_order : IsInOrder heap (outside_group (last_group_of hand) hand) body
     born_in_order =
-        let parts = last_parted in_order.start hand in_order.below within in_claims in
+        let whole_hand = last_parted in_order.start hand in_order.below within in_claims in
         record {
           start = in_order.start;
           below = in_order.below;
           ordered = in_order.ordered;
-          born = part_in (last_group_of hand) hand ++ in_order.born;
-          front = in_order.front ∙ ap (λ xs. xs ++ in_order.born) (sym parts) ∙ append_assoc (part_out (last_group_of hand) hand) (part_in (last_group_of hand) hand) in_order.born;
+          born = inside_group (last_group_of hand) hand ++ in_order.born;
+          front = in_order.front ∙ ap (λ xs. xs ++ in_order.born) (sym whole_hand) ∙ append_assoc (outside_group (last_group_of hand) hand) (inside_group (last_group_of hand) hand) in_order.born;
         }
 
-    pub together_after_birth : AreTogether heap cursor tried (part_out (last_group_of hand) hand) body
+    pub together_after_birth : AreTogether heap cursor tried (outside_group (last_group_of hand) hand) body
     together_after_birth = record {
       gathered = λ none. let empty : length body ≡ 0 = ap length none in absurd (omega (arith, some, empty));
       chosen = λ e. born_in_order;

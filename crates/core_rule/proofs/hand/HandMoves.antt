@@ -1,11 +1,11 @@
 -- What a seat holds and bears once fragments were claimed, given back or born.
 use Rattle.std.proofs.Common.{◌≡◌, ◌≢◌, ℕ, ◌+◌, ◌*◌, ◌<◌, ◌≤◌, inl, inr, List, [], ◌++◌, length, refl, sym, ap, ◌∙◌, arith}
 use Rattle.std.proofs.lemmas.Bool.Decides.{leb_tells}
-use Rattle.core_rule.proofs.Terms.{Heap, tally, part_in, part_out, Bits, Holding, fragments_in_hand, Owner, Free, Taken, Borne, holds_bit, bears_bit, owner_after}
+use Rattle.core_rule.proofs.Terms.{Heap, tally, inside_group, outside_group, Bits, Holding, fragments_in_hand, Owner, Free, Taken, Borne, holds_bit, bears_bit, owner_after}
 use Rattle.core_rule.proofs.hand.Bodies.{in_hand_is_hand, in_hand_ignores_hand}
 use Rattle.core_rule.proofs.owners.Handed.{handed_gains_bit, handed_loses_bit, handed_bit_stays}
 use Rattle.core_rule.proofs.owners.OwnerLemmas.{holds_bit_is_taken, holds_bit_within_one, free_is_no_seats}
-use Rattle.core_rule.proofs.lists.Parts.{part_tallies_make_whole}
+use Rattle.core_rule.proofs.lists.GroupLists.{inside_and_outside_tallies_make_whole}
 use Rattle.core_rule.proofs.lists.Tallies.{tally-append, one_at_same_is_one, one_at_other_is_none}
 
 -- what a seat holds is the heap's
@@ -82,37 +82,37 @@ module _ (owner : ℕ → Owner) (number : ℕ) (reserve hand body : List ℕ) (
   -- those of the hand that are of a group leave it
   module _ (g : ℕ) where
     -- they are the seat's, each once
-    pub part_fragment_is_taken : (f : ℕ) → 1 ≤ tally f (part_in g hand) → owner f ≡ Taken number
-    part_fragment_is_taken f there = hand_fragment_is_taken f (omega (arith, there, part_tallies_make_whole g f hand))
+    pub inside_group_fragment_is_taken : (f : ℕ) → 1 ≤ tally f (inside_group g hand) → owner f ≡ Taken number
+    inside_group_fragment_is_taken f there = hand_fragment_is_taken f (omega (arith, there, inside_and_outside_tallies_make_whole g f hand))
 
-    pub part_has_each_once : (f : ℕ) → tally f (part_in g hand) ≤ 1
-    part_has_each_once f = omega (arith, hand_has_each_once f, part_tallies_make_whole g f hand)
+    pub inside_group_has_each_once : (f : ℕ) → tally f (inside_group g hand) ≤ 1
+    inside_group_has_each_once f = omega (arith, hand_has_each_once f, inside_and_outside_tallies_make_whole g f hand)
 
-    held_less : (o : Owner) → holds_bit number o ≡ 0 → (f : ℕ) → tally f reserve + tally f (part_out g hand) ≡ holds_bit number (owner_after o owner (part_in g hand) f)
+    held_less : (o : Owner) → holds_bit number o ≡ 0 → (f : ℕ) → tally f reserve + tally f (outside_group g hand) ≡ holds_bit number (owner_after o owner (inside_group g hand) f)
     held_less o none f = omega (
       arith,
       holding.held f,
-      part_tallies_make_whole g f hand,
-      handed_loses_bit (holds_bit number) o owner (part_in g hand) part_has_each_once none (λ x there. ap (holds_bit number) (part_fragment_is_taken x there) ∙ one_at_same_is_one number number refl) f,
+      inside_and_outside_tallies_make_whole g f hand,
+      handed_loses_bit (holds_bit number) o owner (inside_group g hand) inside_group_has_each_once none (λ x there. ap (holds_bit number) (inside_group_fragment_is_taken x there) ∙ one_at_same_is_one number number refl) f,
     )
 
     -- they are given back
-    pub holding_after_giving : body ≡ [] → Holding (owner_after Free owner (part_in g hand)) number reserve (part_out g hand) body
+    pub holding_after_giving : body ≡ [] → Holding (owner_after Free owner (inside_group g hand)) number reserve (outside_group g hand) body
     holding_after_giving none = record {
       held = held_less Free refl;
-      borne = λ f. rw (in_hand_is_hand (part_out g hand) body none)
-          (omega (arith, none_borne owner number reserve hand body none holding f, handed_bit_stays (bears_bit number) Free owner (part_in g hand) (λ x there. ap (bears_bit number) (part_fragment_is_taken x there)) f));
+      borne = λ f. rw (in_hand_is_hand (outside_group g hand) body none)
+          (omega (arith, none_borne owner number reserve hand body none holding f, handed_bit_stays (bears_bit number) Free owner (inside_group g hand) (λ x there. ap (bears_bit number) (inside_group_fragment_is_taken x there)) f));
     }
 
     -- they are born
-    pub holding_after_birth : 1 ≤ length body → Holding (owner_after (Borne number) owner (part_in g hand)) number reserve (part_out g hand) body
+    pub holding_after_birth : 1 ≤ length body → Holding (owner_after (Borne number) owner (inside_group g hand)) number reserve (outside_group g hand) body
     holding_after_birth some = record {
       held = held_less (Borne number) refl;
-      borne = λ f. rw (in_hand_ignores_hand (part_out g hand) hand body some)
+      borne = λ f. rw (in_hand_ignores_hand (outside_group g hand) hand body some)
           (omega (
             arith,
             holding.borne f,
-            part_tallies_make_whole g f hand,
-            handed_gains_bit (bears_bit number) (Borne number) owner (part_in g hand) part_has_each_once (one_at_same_is_one number number refl) (λ x there. ap (bears_bit number) (part_fragment_is_taken x there)) f,
+            inside_and_outside_tallies_make_whole g f hand,
+            handed_gains_bit (bears_bit number) (Borne number) owner (inside_group g hand) inside_group_has_each_once (one_at_same_is_one number number refl) (λ x there. ap (bears_bit number) (inside_group_fragment_is_taken x there)) f,
           ));
     }

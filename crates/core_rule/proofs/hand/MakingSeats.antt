@@ -5,8 +5,8 @@ use Rattle.core_rule.proofs.Terms.{first_group_of, newborn_word, Seat, spine_nee
 use Rattle.heap_words.specs.declared.name.Name.{Name}
 use Rattle.heap_words.specs.declared.spot.Spot.{Spot}
 use Rattle.heap_model.specs.declared.command.Command.TheVariants as commands
-use Rattle.core_machine.specs.declared.place.Making.{Making}
-use Rattle.core_machine.specs.declared.place.Place.TheVariants as places
+use Rattle.core_machine.specs.declared.point.Making.{Making}
+use Rattle.core_machine.specs.declared.point.Point.TheVariants as points
 use Rattle.core_machine.specs.Moves.{bears_black_of}
 use Rattle.core_machine.proofs.table_lemmas.Owned.{fragments_group_within_heap}
 use Rattle.core_rule.proofs.entries.AtRest.{in_flight_has_not_left}
@@ -16,10 +16,10 @@ use Rattle.core_rule.proofs.objects.Newborn.{fresh_word}
 use Rattle.core_rule.proofs.objects.ObjectsGrowth.{fresh_fragments, fresh_body_is_some}
 
 -- a seat that makes an object bears no black fragments at rest and in the first phase
-pub making_bears_no_black : (heap : Heap) (state : State) (book : Book) (number : ℕ) (making : Making) → Rule heap state book → number < heap.seats → (seat_at state number).place ≡ places.Making making
+pub making_bears_no_black : (heap : Heap) (state : State) (book : Book) (number : ℕ) (making : Making) → Rule heap state book → number < heap.seats → (seat_at state number).point ≡ points.Making making
     → phase book.history % cycle_phases ≤ 1 → bears_black_of (seat_at state number) ≡ false
-making_bears_no_black heap state book number making rule here place early =
-    let present = in_flight_has_not_left rule number here (λ idle. absurd (cc (place, idle))) in
+making_bears_no_black heap state book number making rule here point early =
+    let present = in_flight_has_not_left rule number here (λ idle. absurd (cc (point, idle))) in
     bears_no_black_early (phase book.history) (seat_at state number) ((rule.seats_stand number here).cycle.answers_told.near present) early
 
 -- the groups of its hand's first and last fragments are the heap's
@@ -55,7 +55,7 @@ needed_word_is_listed _ spine listed j made all within = absurd made
 
 -- where the object's words are to be stored or its fragments to be born, each word of its spine names a payload fragment
 pub listed_word_names_payload : (heap : Heap) (words : List ℕ) (spine_owner : ℕ → ℕ → SpineOwner) (number : ℕ) (seat : Seat) → SpineInHand heap words spine_owner number seat
-    → (IsArrayCall seat.command → HasPlace seat seat.place) → MakesObject seat.command → SpineIsListed seat.command seat.spine seat.listed
+    → (IsArrayCall seat.command → HasPlace seat seat.point) → MakesObject seat.command → SpineIsListed seat.command seat.spine seat.listed
     → (j : ℕ) → j < spine_need seat → at heap words (spine_place seat.spine j) ≡ spine_word (fragment_at seat.body (j + 1))
 listed_word_names_payload heap words spine_owner number seat hand placed made all j within =
     let there = needed_word_is_listed seat.command seat.spine seat.listed j made all within in

@@ -2,7 +2,7 @@
 use Rattle.std.specs.List.{All}
 use Rattle.std.proofs.Common.{◌≡◌, ℕ, ◌+◌, ◌/◌, ◌≤◌, ◌<◌, List, [], length, refl, sym, ap, ◌∙◌, subst, arith}
 use Rattle.core_rule.proofs.Terms.{Heap, Control, mask_of, tally, at, put, table_length, word_without_taken, Bits, Holding, Owner, Free, Taken, holds_bit, bears_bit, owner_after}
-use Rattle.core_machine.proofs.call_lemmas.Restoring.{part_of_own_group_is_all}
+use Rattle.core_machine.proofs.call_lemmas.Restoring.{inside_own_group_is_all}
 use Rattle.core_rule.proofs.words.ControlSteps.{bits_after_giving}
 use Rattle.core_rule.proofs.owners.Handed.{handed_loses_bit, handed_bit_stays}
 use Rattle.core_rule.proofs.owners.OwnerLemmas.{holds_bit_is_taken, holds_bit_within_one}
@@ -32,5 +32,5 @@ module _ (owner : ℕ → Owner) (number : ℕ) (reserve hand body : List ℕ) (
   pub bits_after_emptying : (heap : Heap) (words : List ℕ) (g : ℕ) → length words ≡ table_length heap → g < heap.groups → All (λ f. f / 16 ≡ g) reserve → Bits heap words owner
       → Bits heap (put heap words (Control g) (word_without_taken (mask_of reserve) (at heap words (Control g)))) (owner_after Free owner reserve)
   bits_after_emptying heap words g whole below all bits =
-      subst (λ fs. Bits heap (put heap words (Control g) (word_without_taken (mask_of fs) (at heap words (Control g)))) (owner_after Free owner fs)) (part_of_own_group_is_all g reserve all)
+      subst (λ fs. Bits heap (put heap words (Control g) (word_without_taken (mask_of fs) (at heap words (Control g)))) (owner_after Free owner fs)) (inside_own_group_is_all g reserve all)
       (bits_after_giving heap words owner g whole below bits reserve number reserve_has_each_once reserve_fragment_is_taken)

@@ -3,7 +3,7 @@ use Rattle.std.proofs.Common.{◌≡◌, ℕ, ◌+◌, ◌*◌, ◌/◌, ◌%◌
 use Rattle.std.proofs.lemmas.Bool.{cases_lt, cases_eq}
 use Rattle.core_rule.proofs.Terms.{Heap, Word, AreFragments, tally, at, put, table_length, fragment_at, Bits, Owner}
 use Rattle.core_rule.proofs.words.Addresses.{written_word_is_read, control_same_after_word, other_fragment_word_stays, other_part_stays}
-use Rattle.core_rule.proofs.lists.Members.{equal_elements_same_place, all_holds_at_place}
+use Rattle.core_rule.proofs.lists.Members.{equal_elements_same_position, all_holds_at_position}
 
 -- no control word changes
 pub bits_after_store : (heap : Heap) (words : List ℕ) (owner : ℕ → Owner) (f part n : ℕ) → Bits heap words owner → Bits heap (put heap words (Word f part) n) owner
@@ -27,14 +27,14 @@ module _ (heap : Heap) (body : List ℕ) (word : ℕ → ℕ → ℕ) where
 
     stored_last : length words ≡ table_length heap → at heap after_store (Word (fragment_at body (stored / 4)) (stored % 4)) ≡ word (stored / 4) (stored % 4)
     stored_last whole = written_word_is_read heap words (word (stored / 4) (stored % 4)) (fragment_at body (stored / 4)) (stored % 4) whole
-        (all_holds_at_place (λ f. f < 16 * heap.groups) body (stored / 4) within row_within) (omega arith)
+        (all_holds_at_position (λ f. f < 16 * heap.groups) body (stored / 4) within row_within) (omega arith)
 
     stored_before : (u : ℕ) → u < stored → at heap after_store (Word (fragment_at body (u / 4)) (u % 4)) ≡ at heap words (Word (fragment_at body (u / 4)) (u % 4))
     stored_before u less = elim (cases_eq (u / 4) (stored / 4)) [
       | inl row ↦ other_part_stays heap words (word (stored / 4) (stored % 4)) (fragment_at body (stored / 4)) (stored % 4) (fragment_at body (u / 4)) (u % 4)
           (λ e. omega (arith, row, e, less)) (ap (fragment_at body) row)
       | inr apart ↦ other_fragment_word_stays heap words (word (stored / 4) (stored % 4)) (fragment_at body (stored / 4)) (stored % 4) (fragment_at body (u / 4)) (u % 4)
-          (omega arith) (omega arith) (λ e. apart (equal_elements_same_place body (u / 4) (stored / 4) once (omega (arith, less)) row_within e))
+          (omega arith) (omega arith) (λ e. apart (equal_elements_same_position body (u / 4) (stored / 4) once (omega (arith, less)) row_within e))
     ]
 
     -- one word more is as it has to be

@@ -5,7 +5,7 @@ use Rattle.core_rule.proofs.Terms.{Heap, Id, Bits, Owner, Free, Taken, Borne, Ke
 use Rattle.core_rule.proofs.owners.OwnerLemmas.{IsOwn}
 use Rattle.core_rule.proofs.ways.LoadedObjects.{KeptHead}
 
--- the fragment is a seat's, or a part of a kept object
+-- the fragment is a seat's, or one of a kept object
 abbrev pub IsAlive : Owner → Type 0
 IsAlive Free = ⊥
 IsAlive (Taken number) = Unit {0}

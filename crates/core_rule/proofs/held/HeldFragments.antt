@@ -6,7 +6,7 @@ use Rattle.core_rule.specs.held.HeldLaws.{EachHeldIsTaken, NoClaimTakesHeld, Eac
 use Rattle.core_rule.proofs.held.Alive.{IsAlive, kept_is_alive, head_is_alive, alive_not_dead, alive_is_taken, alive_within_heap}
 use Rattle.core_rule.proofs.held.BodyWords.{borne_leads_to_alive}
 use Rattle.core_rule.proofs.held.Holders.{held_by_holder_is_alive}
-use Rattle.core_rule.proofs.marking.ObjectEdges.{kept_leads_to_kept, part_is_kept}
+use Rattle.core_rule.proofs.marking.ObjectEdges.{kept_leads_to_kept, fragment_is_kept}
 use Rattle.core_rule.proofs.marking.Paths.{white_or_marked}
 
 module _ (heap : Heap) (state : State) (book : Book) (rule : Rule heap state book) where
@@ -17,7 +17,7 @@ module _ (heap : Heap) (state : State) (book : Book) (rule : Rule heap state boo
   -- the sources of a kept object lead to what is alive
   kept_alive_leads : (f i k source x : ℕ) → book.owner f ≡ Kept i k → WordPointsTo heap state.words f source x → IsAlive (book.owner x)
   kept_alive_leads f i k source x is leads = elim (kept_leads_to_kept heap state book rule f i k is source x leads) as (λ _. IsAlive (book.owner x)) [
-    | inl part ↦ kept_is_alive (book.owner x) i part.place (part_is_kept heap state book rule f i k is x part)
+    | inl fragment ↦ kept_is_alive (book.owner x) i fragment.position (fragment_is_kept heap state book rule f i k is x fragment)
     | inr head ↦ head_is_alive book.made book.owner book.fragments x head
   ]
 

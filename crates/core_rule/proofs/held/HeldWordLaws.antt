@@ -1,6 +1,6 @@
 -- The laws of held spine words: no claim takes one, and a store goes to a word of its own party.
 use Rattle.std.proofs.Common.{◌≡◌, ◌≢◌, ℕ, ◌/◌, ◌<◌, ◌≤◌, inl, inr, sym, ap, ◌∙◌, subst, arith}
-use Rattle.core_rule.proofs.Terms.{Heap, IsCopying, FitsCopying, State, seat_at, FitsPlace, Seat, tally, Book, Borne, Placed, born_bit, copy_in, Rule, HasPlace, next_spine}
+use Rattle.core_rule.proofs.Terms.{Heap, IsCopying, FitsCopying, State, seat_at, FitsPoint, Seat, tally, Book, Borne, Placed, born_bit, copy_in, Rule, HasPlace, next_spine}
 use Rattle.core_machine.specs.collector.FitsTurns.{FitsStage}
 use Rattle.core_machine.specs.declared.collector.stage.Copying.TheVariants as copying
 use Rattle.core_machine.specs.declared.collector.stage.SpineCopy.{SpineCopy}
@@ -65,7 +65,7 @@ pub each_store_is_own : EachStoreIsOwn
 each_store_is_own heap state book number fragment part word rule here due =
     let seat : Seat = seat_at state number in
     let at_store = newborn_store_is_due heap number seat fragment part word due in
-    let fits = subst (FitsPlace heap seat) at_store.0 (seat_fits rule number here).at_place in
+    let fits = subst (FitsPoint heap seat) at_store.0 (seat_fits rule number here).at_point in
     let in_body : 1 ≤ tally fragment seat.body = subst (λ f. 1 ≤ tally f seat.body) (sym at_store.1) (element_is_tallied seat.body (seat.stored / 4) (omega (arith, fits.2))) in
     let in_hand : 1 ≤ tally fragment seat.hand = subst (λ fs. 1 ≤ tally fragment fs) (sym fits.1) in_body in
     let its = hand_fragment_is_taken book.owner number seat.reserve seat.hand seat.body (rule.seats_stand number here).own.holding fragment in_hand in
@@ -76,7 +76,7 @@ pub each_spine_store_is_own : EachSpineStoreIsOwn
 each_spine_store_is_own heap state book number half offset fragment rule here due =
     let seat : Seat = seat_at state number in
     let at_list = listing_store_is_due heap number seat half offset fragment due in
-    let fits = subst (FitsPlace heap seat) at_list.0 (seat_fits rule number here).at_place in
+    let fits = subst (FitsPoint heap seat) at_list.0 (seat_fits rule number here).at_point in
     let hand : IsInHandOf state number half offset = record {
       has = subst (HasPlace seat) (sym at_list.0) fits.0.1;
       among = record { index = seat.listed; within = fits.1; is = record { half_is = at_list.1; offset_is = at_list.2 } };

@@ -1,12 +1,12 @@
 -- What a seat holds is alive.
 use Rattle.std.specs.Prelude.{IsSome}
 use Rattle.std.proofs.Common.{◌≡◌, ℕ, ◌<◌, ◌⊎◌, inl, inr, Some, None, refl, sym, ap, ◌∙◌, subst, arith}
-use Rattle.core_rule.proofs.Terms.{Heap, Node, register_value, Place, LoadingMeta, Walking, Indexing, Getting, LoadingOld, ShadingOld, ShadingNew, Swapping, State, seat_at}
+use Rattle.core_rule.proofs.Terms.{Heap, Node, register_value, Point, LoadingMeta, Walking, Indexing, Getting, LoadingOld, ShadingOld, ShadingNew, Swapping, State, seat_at}
 use Rattle.core_rule.proofs.Terms.{FitsWay, register_in, Seat, head_of, tally, Book, fragment_at, object_number, object_head, Awaits, Holding, node_at, Rule, SeatStands, SetsOut}
 use Rattle.core_rule.proofs.Terms.{Finds, Locates, LoadedKept, OldKept, WayStands}
-use Rattle.core_machine.specs.declared.place.Place.TheVariants as places
-use Rattle.core_machine.specs.declared.place.Access.{Access}
-use Rattle.core_machine.specs.declared.place.Access.TheVariants.{LoadingSpot, Naming}
+use Rattle.core_machine.specs.declared.point.Point.TheVariants as points
+use Rattle.core_machine.specs.declared.point.Access.{Access}
+use Rattle.core_machine.specs.declared.point.Access.TheVariants.{LoadingSpot, Naming}
 use Rattle.core_rule.specs.held.Held.{OwnsFragment, IsInRegister, AccessHolds, CallHolds, SeatHolds}
 use Rattle.core_rule.proofs.entries.AtRest.{seat_fits}
 use Rattle.core_rule.proofs.hand.Bodies.{body_is_own}
@@ -70,7 +70,7 @@ module _ (heap : Heap) (state : State) (book : Book) (rule : Rule heap state boo
   nothing_loaded : seat.loaded ≡ 0 → (f : ℕ) → head_of seat.loaded ≡ Some f → AliveNow f
   nothing_loaded none f is = let nowhere : head_of seat.loaded ≡ None = rw none refl in absurd (cc (nowhere, is))
 
-  named_alive : (f : ℕ) → Awaits (told_graph heap book) book.made book.owner book.fragments number seat (places.Access Naming) stands.told.list.awaited → head_of seat.loaded ≡ Some f → AliveNow f
+  named_alive : (f : ℕ) → Awaits (told_graph heap book) book.made book.owner book.fragments number seat (points.Access Naming) stands.told.list.awaited → head_of seat.loaded ≡ Some f → AliveNow f
   named_alive f awaits is =
       let same : f ≡ object_head book.made book.fragments awaits.id = cc (is, awaits.loads) in
       kept_is_alive (book.owner f) (object_number book.made awaits.id) 0 (ap book.owner same ∙ awaits.kept.1)
@@ -79,8 +79,8 @@ module _ (heap : Heap) (state : State) (book : Book) (rule : Rule heap state boo
   either f reached loaded (inl is) = rw is reached
   either f reached loaded (inr is) = loaded f is
 
-  access_alive : (f : ℕ) (place : Access) → FitsWay seat (places.Access place) → WayStands nodes book.made book.owner book.fragments seat (places.Access place)
-      → Awaits (told_graph heap book) book.made book.owner book.fragments number seat (places.Access place) stands.told.list.awaited → AccessHolds seat place f → AliveNow f
+  access_alive : (f : ℕ) (point : Access) → FitsWay seat (points.Access point) → WayStands nodes book.made book.owner book.fragments seat (points.Access point)
+      → Awaits (told_graph heap book) book.made book.owner book.fragments number seat (points.Access point) stands.told.list.awaited → AccessHolds seat point f → AliveNow f
   access_alive f LoadingMeta fits way awaits holds = either f (start_alive way) (nothing_loaded fits.none_loaded) holds
   access_alive f Walking fits way awaits holds = either f (reached_alive way) (nothing_loaded fits.none_loaded) holds
   access_alive f LoadingSpot fits way awaits holds = either f (sentinel_alive way) (nothing_loaded fits.none_loaded) holds
@@ -92,13 +92,13 @@ module _ (heap : Heap) (state : State) (book : Book) (rule : Rule heap state boo
   access_alive f ShadingNew fits way awaits holds = either f (reached_alive way.0) (old_alive way.1) holds
   access_alive f Swapping fits way awaits holds = either f (reached_alive way.0) (old_alive way.1) holds
 
-  call_alive : (f : ℕ) (place : Place) → FitsWay seat place → WayStands nodes book.made book.owner book.fragments seat place
-      → Awaits (told_graph heap book) book.made book.owner book.fragments number seat place stands.told.list.awaited → CallHolds seat place f → AliveNow f
-  call_alive f (places.Access place) fits way awaits holds = access_alive f place fits way awaits holds
+  call_alive : (f : ℕ) (point : Point) → FitsWay seat point → WayStands nodes book.made book.owner book.fragments seat point
+      → Awaits (told_graph heap book) book.made book.owner book.fragments number seat point stands.told.list.awaited → CallHolds seat point f → AliveNow f
+  call_alive f (points.Access point) fits way awaits holds = access_alive f point fits way awaits holds
   call_alive f _ fits way awaits holds = absurd holds
 
   -- so is all that it holds
   pub held_by_holder_is_alive : (f : ℕ) → SeatHolds seat f → AliveNow f
   held_by_holder_is_alive f (inl has) = owned_alive f has
   held_by_holder_is_alive f (inr (inl held)) = register_alive f held
-  held_by_holder_is_alive f (inr (inr holds)) = call_alive f seat.place (seat_fits rule number here).way_at_place stands.names.way stands.told.list.awaits holds
+  held_by_holder_is_alive f (inr (inr holds)) = call_alive f seat.point (seat_fits rule number here).way_at_point stands.names.way stands.told.list.awaits holds

@@ -3,7 +3,7 @@ use Rattle.std.proofs.Common.{◌≡◌, ◌≢◌, ℕ, ◌+◌, ◌<◌, inr, 
 use Rattle.heap_words.specs.declared.spot.Spot.{Spot}
 use Rattle.core_rule.proofs.Terms.{spot_in, graph_of, Heap, Node, Graph, Collector, IsIndexing, IsCopying, FitsCopying, Word, Spine, State, seat_at, spine_words_in, at, HasWord}
 use Rattle.core_rule.proofs.Terms.{Book, fragment_at, IsSeen, IsSpineOf, node_at, Open, Spined, IsToCopy, copy_in, Rule, next_spine, HasPlace, Seat, spine_need, Listing, Indexing}
-use Rattle.core_rule.proofs.Terms.{spine_words_of, field_of, FitsPlace, Locates}
+use Rattle.core_rule.proofs.Terms.{spine_words_of, field_of, FitsPoint, Locates}
 use Rattle.core_machine.specs.declared.collector.stage.Copying.TheVariants as copying
 use Rattle.core_machine.specs.declared.collector.stage.SpineCopy.{SpineCopy}
 use Rattle.core_machine.specs.declared.collector.stage.SpineScan.{SpineScan}
@@ -11,7 +11,7 @@ use Rattle.core_machine.specs.declared.collector.stage.Stage.TheVariants as stag
 use Rattle.core_rule.specs.held.HeldWords.{IsAmong, IsInCopy, IsHeldWord, IsInHandOf, IsLoadedBy}
 use Rattle.core_rule.proofs.held.WordOwners.{kept_word_is_spined, held_word_is_owned}
 use Rattle.core_rule.proofs.budgets.OffsetWithin.{owned_offset_within_table}
-use Rattle.core_machine.specs.declared.place.Place.TheVariants as places
+use Rattle.core_machine.specs.declared.point.Point.TheVariants as points
 use Rattle.core_rule.proofs.entries.AtRest.{seat_fits}
 use Rattle.core_rule.proofs.marking.ObjectEdges.{kept_tells_spine_words}
 use Rattle.core_rule.proofs.ways.LoadedPlaces.{calls_object_of_first}
@@ -35,24 +35,24 @@ module _ (heap : Heap) (state : State) (book : Book) (rule : Rule heap state boo
     abbrev seat : Seat
     seat = seat_at state number
 
-    pub listed_word_is_held : seat.place ≡ places.Making Listing → IsHeldWord heap state seat.spine.half (seat.spine.offset + seat.listed)
-    listed_word_is_held placed =
-        let fits = subst (FitsPlace heap seat) placed (seat_fits rule number here).at_place in
+    pub listed_word_is_held : seat.point ≡ points.Making Listing → IsHeldWord heap state seat.spine.half (seat.spine.offset + seat.listed)
+    listed_word_is_held point_is =
+        let fits = subst (FitsPoint heap seat) point_is (seat_fits rule number here).at_point in
         let hand : IsInHandOf state number seat.spine.half (seat.spine.offset + seat.listed)
-        = record { has = subst (HasPlace seat) (sym placed) fits.0.1; among = of_itself seat.spine (spine_need seat) seat.listed fits.1 } in
+        = record { has = subst (HasPlace seat) (sym point_is) fits.0.1; among = of_itself seat.spine (spine_need seat) seat.listed fits.1 } in
         inr (inl (number, here, inl hand))
 
-    pub indexed_word_is_held : seat.place ≡ places.Access Indexing → IsHeldWord heap state seat.address.half (seat.address.offset + field_of seat.command / 4)
-    indexed_word_is_held placed =
+    pub indexed_word_is_held : seat.point ≡ points.Access Indexing → IsHeldWord heap state seat.address.half (seat.address.offset + field_of seat.command / 4)
+    indexed_word_is_held point_is =
         let g : Graph = graph_of heap book.history in
         let stands = rule.heap_stands in
-        let locates : Locates (node_at g book.made) book.made book.owner book.fragments seat = rw placed at (rule.seats_stand number here).names.way in
+        let locates : Locates (node_at g book.made) book.made book.owner book.fragments seat = rw point_is at (rule.seats_stand number here).names.way in
         let i : ℕ = locates.index in
         let f : ℕ = fragment_at (book.fragments i) 0 in
         let ahead = field_word_within_spine heap state.words g book.made book.owner book.fragments rule.machine.limits stands.control_words stands.ids stands.objects seat locates in
         let many : spine_words_in (at heap state.words (Word f 0)) ≡ spine_words_of (node_at g book.made i) = (kept_tells_spine_words heap state book rule f i 0 locates.way.kept).1.told in
         let loads : IsLoadedBy heap state number seat.address.half (seat.address.offset + field_of seat.command / 4) = record {
-          loaded = rw placed tt;
+          loaded = rw point_is tt;
           sentinel = f;
           calls = calls_object_of_first book.made book.owner book.fragments seat i 0 locates.way;
           among = of_itself seat.address (spine_words_in (at heap state.words (Word f 0))) (field_of seat.command / 4) (subst (λ n. field_of seat.command / 4 < n) (sym many) ahead);
@@ -71,11 +71,11 @@ module _ (heap : Heap) (state : State) (book : Book) (rule : Rule heap state boo
       let fits : IsIndexing heap collector.phase collector.looked s = rw stage at rule.machine.collector_fit.at_stage in
       let seen : IsSeen heap state.words book.colour s.scan.fragment (4 + s.index) × IsSpineOf heap state.words s = rw stage at rule.marks_stand.heap_marks.scan in
       let f : ℕ = s.scan.fragment in
-      let part = rule.marks_stand.heap_marks.grey f seen.0.grey in
+      let kept_fragment = rule.marks_stand.heap_marks.grey f seen.0.grey in
       let among : IsAmong (spot_in (at heap state.words (Word f 2))) (spine_words_in (at heap state.words (Word f 0))) s.spine.half (s.spine.offset + s.index)
       = subst (λ p. IsAmong p (spine_words_in (at heap state.words (Word f 0))) s.spine.half (s.spine.offset + s.index)) seen.1.there
       (of_itself s.spine (spine_words_in (at heap state.words (Word f 0))) s.index (subst (λ n. s.index < n) seen.1.as_many fits.on.index_within)) in
-      let its = kept_word_is_spined heap state book rule s.spine.half (s.spine.offset + s.index) f part.index part.place part.kept among in
+      let its = kept_word_is_spined heap state book rule s.spine.half (s.spine.offset + s.index) f kept_fragment.index kept_fragment.position kept_fragment.kept among in
       cc (its.2, open_)
 
   pub loaded_word_is_owned : (copy : SpineCopy) → collector.stage ≡ stages.Copying (copying.Loading copy) → book.spine_owner copy.from.half (copy.from.offset + copy.index) ≢ Open

@@ -15,7 +15,7 @@ use Rattle.core_rule.proofs.entries.AtRest.{seat_fits}
 use Rattle.core_rule.proofs.held.Alive.{IsAlive}
 use Rattle.core_rule.proofs.held.BodyWords.{bearing_has_stored_all, fragment_is_in_body}
 use Rattle.core_rule.proofs.held.HeldFragments.{held_is_alive, held_within_heap, born_fragment_has_bit}
-use Rattle.core_rule.proofs.lists.Members.{place_of, element_stands_at_place}
+use Rattle.core_rule.proofs.lists.Members.{position_of, element_stands_at_position}
 use Rattle.core_rule.proofs.marking.ObjectEdges.{kept_tells_spine_words}
 use Rattle.core_rule.proofs.objects.LastBirth.{all_words_are_stored}
 use Rattle.core_rule.proofs.objects.SpinePlaces.{array_spine_fits_spot}
@@ -99,12 +99,12 @@ module _ (heap : Heap) (state : State) (book : Book) (rule : Rule heap state boo
     seat = seat_at state number
 
     abbrev k : ℕ
-    k = place_of f seat.body
+    k = position_of f seat.body
 
     here : number < heap.seats
     here = (borne_is_in_seat_body heap state book rule number f bears).0
 
-    by_command : (command : Command) → seat.command ≡ command → MakesObject command → IsCommand command → (IsArrayCall command → HasPlace seat seat.place) → k < length seat.body
+    by_command : (command : Command) → seat.command ≡ command → MakesObject command → IsCommand command → (IsArrayCall command → HasPlace seat seat.point) → k < length seat.body
         → ((part : ℕ) → part < 4 → at heap state.words (Word f part) ≡ newborn_word command (next_name number seat) seat.spine seat.body k part) → IsInHandOf state number half offset
     by_command (commands.New d fields) is made range placed within stored =
         let small : (i : ℕ) → i < length seat.body → get_or seat.body i 0 < 2 ^ 30 = λ i less.
@@ -134,11 +134,11 @@ module _ (heap : Heap) (state : State) (book : Book) (rule : Rule heap state boo
 
     pub borne_word : IsInHandOf state number half offset
     borne_word =
-        let has = bearing_has_stored_all heap state book rule number f bears seat.place (seat_fits rule number here).at_place in
-        let place = element_stands_at_place f seat.body (fragment_is_in_body heap state book rule number f bears) in
-        by_command seat.command refl has.0.makes.an_object has.0.makes.in_range has.3 place.0
-        (λ part within. subst (λ x. at heap state.words (Word x part) ≡ newborn_word_of number seat k part) place.1
-        (all_words_are_stored heap state.words seat.body (newborn_word_of number seat) seat.stored has.1 (rule.seats_stand number here).own.stored k part place.0 within))
+        let has = bearing_has_stored_all heap state book rule number f bears seat.point (seat_fits rule number here).at_point in
+        let position = element_stands_at_position f seat.body (fragment_is_in_body heap state book rule number f bears) in
+        by_command seat.command refl has.0.makes.an_object has.0.makes.in_range has.3 position.0
+        (λ part within. subst (λ x. at heap state.words (Word x part) ≡ newborn_word_of number seat k part) position.1
+        (all_words_are_stored heap state.words seat.body (newborn_word_of number seat) seat.stored has.1 (rule.seats_stand number here).own.stored k part point.0 within))
 
   -- so the spine of what is held is an array's, or that of a seat which has borne it
   pub held_word_is_spined_or_borne : IsOfHeld heap state half offset → IsSpined ⊎ ((number : ℕ) × (f : ℕ) × (book.owner f ≡ Borne number) × IsInHandOf state number half offset)
@@ -160,8 +160,8 @@ module _ (heap : Heap) (state : State) (book : Book) (rule : Rule heap state boo
   loaded_word_is_spined_or_gone number here loads =
       let seat : Seat = seat_at state number in
       let stands = rule.seats_stand number here in
-      let on = loaded_is_on_way nodes book.made book.owner book.fragments seat seat.place loads.loaded stands.names.way in
-      let reads : ReadsSpine heap state.words nodes book.owner book.fragments book.spines book.spine_owner seat = while_loaded_holds seat.place loads.loaded stands.names.address in
+      let on = loaded_is_on_way nodes book.made book.owner book.fragments seat seat.point loads.loaded stands.names.way in
+      let reads : ReadsSpine heap state.words nodes book.owner book.fragments book.spines book.spine_owner seat = while_loaded_holds seat.point loads.loaded stands.names.address in
       let i : ℕ = on.index in
       let f : ℕ = loads.sentinel in
       let owned : book.owner f ≡ Kept i 0 = ap book.owner (called_register_is_first book.made book.owner book.fragments seat i on.row f on.way loads.calls) ∙ on.way.kept in

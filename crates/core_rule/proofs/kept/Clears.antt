@@ -9,7 +9,7 @@ use Rattle.core_machine.proofs.table_lemmas.Free.{sum_of_same_functions, sum_of_
 use Rattle.core_rule.specs.footprint.Footprint.{is_among, inside_bit, kept_bit, in_groups_before, in_groups_from, ClearedWithin}
 use Rattle.core_rule.proofs.counts.FreeSums.{control_bit_is_taken_bit}
 use Rattle.core_rule.proofs.kept.WeightGrowth.{test_counts_once}
-use Rattle.core_rule.proofs.lists.Parts.{group_tallies_are_length}
+use Rattle.core_rule.proofs.lists.GroupLists.{group_tallies_are_length}
 use Rattle.core_rule.proofs.lists.SumLemmas.{sum_le, sum_blocks}
 use Rattle.core_rule.proofs.words.SetBits.{set_in, set_is_in_group, set_tally_is_bit, set_length_is_bit_count}
 
@@ -48,16 +48,16 @@ module _ (n group : ℕ) (below : group < n) (first second : ℕ → ℕ) (same 
 
 module _ (n group : ℕ) (below : group < n) (bit : ℕ → ℕ) where
   -- what is counted from a group on is counted from the next on, and in the group
-  pub from_parts : sum_upto (16 * n) (in_groups_from group bit) ≡ sum_upto (16 * n) (in_groups_from (group + 1) bit) + sum_upto 16 (λ j. bit (16 * group + j))
-  from_parts =
+  pub from_summands : sum_upto (16 * n) (in_groups_from group bit) ≡ sum_upto (16 * n) (in_groups_from (group + 1) bit) + sum_upto 16 (λ j. bit (16 * group + j))
+  from_summands =
       let change = but_one_group n group below (in_groups_from group bit) (in_groups_from (group + 1) bit) (λ i j small other. from_else bit group i j small other) in
       let none = sum_of_nothing_is_zero 16 (λ j. in_groups_from (group + 1) bit (16 * group + j)) (λ j small. from_next bit group group j small refl) in
       let all = sum_of_same_functions 16 (λ j. in_groups_from group bit (16 * group + j)) (λ j. bit (16 * group + j)) (λ j small. from_here bit group group j small refl) in
       omega (arith, change, none, all)
 
   -- what is counted before the next group is counted before the group, and in it
-  pub before_parts : sum_upto (16 * n) (in_groups_before (group + 1) bit) ≡ sum_upto (16 * n) (in_groups_before group bit) + sum_upto 16 (λ j. bit (16 * group + j))
-  before_parts =
+  pub before_summands : sum_upto (16 * n) (in_groups_before (group + 1) bit) ≡ sum_upto (16 * n) (in_groups_before group bit) + sum_upto 16 (λ j. bit (16 * group + j))
+  before_summands =
       let change = but_one_group n group below (in_groups_before group bit) (in_groups_before (group + 1) bit) (λ i j small other. before_else bit group i j small other) in
       let none = sum_of_nothing_is_zero 16 (λ j. in_groups_before group bit (16 * group + j)) (λ j small. before_here bit group group j small refl) in
       let all = sum_of_same_functions 16 (λ j. in_groups_before (group + 1) bit (16 * group + j)) (λ j. bit (16 * group + j)) (λ j small. before_next bit group group j small refl) in
@@ -84,19 +84,19 @@ module _ (heap : Heap) (words : List ℕ) (owner : ℕ → Owner) (bits : Bits h
       let low : word % 2 ^ 16 < 2 ^ 16 = omega arith in
       sym (set_length_is_bit_count group (word % 2 ^ 16) low) ∙ sym (group_tallies_are_length group (set_in group (word % 2 ^ 16)) (λ f there. set_is_in_group group (word % 2 ^ 16) f there))
       ∙ sum_of_same_functions 16 (λ j. tally (16 * group + j) (set_in group (word % 2 ^ 16))) (λ j. taken_bit (owner (16 * group + j))) (λ j small.
-      let place : (16 * group + j) % 16 ≡ j = omega (arith, small) in
-      set_tally_is_bit group (word % 2 ^ 16) low (16 * group + j) (omega (arith, small)) ∙ ap (λ p. bit_at (word % 2 ^ 16) p) place ∙ low_bit word j small
+      let position : (16 * group + j) % 16 ≡ j = omega (arith, small) in
+      set_tally_is_bit group (word % 2 ^ 16) low (16 * group + j) (omega (arith, small)) ∙ ap (λ p. bit_at (word % 2 ^ 16) p) position ∙ low_bit word j small
       ∙ control_bit_is_taken_bit heap words owner bits group j below small)
 
   -- the count goes on to be right when the collector has counted a group
   pub cleared_within_next_group : (made begun : List Id) (most kept : ℕ) → ClearedWithin heap made begun owner most group kept
       → ClearedWithin heap made begun owner most (group + 1) (kept + taken_count_of (at heap words (Control group)))
   cleared_within_next_group made begun most kept cleared = record {
-    at_most = omega (arith, cleared.at_most, taken_counted, from_parts heap.groups group below (λ f. taken_bit (owner f)));
+    at_most = omega (arith, cleared.at_most, taken_counted, from_summands heap.groups group below (λ f. taken_bit (owner f)));
     at_least =
         let few = sum_le 16 (λ j. kept_bit (is_among begun) made (owner (16 * group + j))) (λ j. taken_bit (owner (16 * group + j)))
         (λ j small. kept_taken (is_among begun) made (owner (16 * group + j))) in
-        omega (arith, cleared.at_least, taken_counted, few, before_parts heap.groups group below (λ f. kept_bit (is_among begun) made (owner f)));
+        omega (arith, cleared.at_least, taken_counted, few, before_summands heap.groups group below (λ f. kept_bit (is_among begun) made (owner f)));
   }
 
 module _ (heap : Heap) (made : List Id) (owner : ℕ → Owner) (inside : Id → Bool) (kept_inside : (f i k : ℕ) → owner f ≡ Kept i k → inside (id_at made i) ≡ true)

@@ -4,13 +4,13 @@ use Rattle.std.proofs.Common.{◌≡◌, ℕ, ◌<◌, inl, inr, slice_get, Opti
 use Rattle.std.proofs.lemmas.Bool.{cases_lt}
 use Rattle.std.proofs.lemmas.Bool.Decides.{eqb_tells}
 use Rattle.std.proofs.lemmas.Option.{slice_get-get_or}
-use Rattle.core_rule.proofs.Terms.{Heap, Id, Value, graph_of, Graph, Node, opening, node, register_value, IsRoot, PointsTo, Points, Reaches, from_register, from_cell, Place}
+use Rattle.core_rule.proofs.Terms.{Heap, Id, Value, graph_of, Graph, Node, opening, node, register_value, IsRoot, PointsTo, Points, Reaches, from_register, from_cell, Point}
 use Rattle.core_rule.proofs.Terms.{Register, State, seat_at, target_of, register_in, Seat, Book, id_at, object_number, IsAwaitingName, NamesKept, node_in, HoldsValue, IsAwaited}
 use Rattle.core_rule.proofs.Terms.{Rule}
 use Rattle.heap_model.specs.declared.id.Value.TheVariants as values
 use Rattle.heap_model.specs.declared.graph.cell.Cell.{Cell}
-use Rattle.core_machine.specs.declared.place.Access.TheVariants.{Naming}
-use Rattle.core_machine.specs.declared.place.Place.TheVariants as places
+use Rattle.core_machine.specs.declared.point.Access.TheVariants.{Naming}
+use Rattle.core_machine.specs.declared.point.Point.TheVariants as call_points
 use Rattle.core_machine.specs.declared.seat.register.Register.TheVariants as registers
 use Rattle.core_rule.proofs.sweep_exact.GoneSeats.{gone_stays_after_history, gone_at_opening}
 use Rattle.core_rule.proofs.graph.LeftSeats.{left_registers_are_nil}
@@ -40,26 +40,26 @@ module _ (heap : Heap) (state : State) (book : Book) (rule : Rule heap state boo
     seat = seat_at state number
 
     -- and so is what one holds that awaits its object's name
-    register_kept : (place : Place) → seat.place ≡ place → IsNamedKept id
-    register_kept (places.Access Naming) placed = elim (eqb_tells r (target_of seat.command)) [
+    register_kept : (point : Point) → seat.point ≡ point → IsNamedKept id
+    register_kept (call_points.Access Naming) point_is = elim (eqb_tells r (target_of seat.command)) [
       | inl same ↦
           let list = (rule.seats_stand number here).told.list in
-          let awaits : IsAwaitingName g book.made book.owner book.fragments number seat list.awaited = rw placed at list.awaits in
+          let awaits : IsAwaitingName g book.made book.owner book.fragments number seat list.awaited = rw point_is at list.awaits in
           let both : values.Object awaits.id ≡ values.Object id = sym awaits.held ∙ ap (register_value g number) (sym same.1) ∙ holds in
           let its : awaits.id ≡ id = cc in
           subst IsNamedKept its awaits.kept
       | inr apart ↦ holds_kept (register_in seat.registers r) (register_value g number r) id
-          ((rule.seats_stand number here).names.registers r (λ awaited. apart.1 (subst (λ p. IsAwaited p (target_of seat.command) r) placed awaited))) holds
+          ((rule.seats_stand number here).names.registers r (λ awaited. apart.1 (subst (λ p. IsAwaited p (target_of seat.command) r) point_is awaited))) holds
     ]
-    register_kept _ placed = holds_kept (register_in seat.registers r) (register_value g number r) id
-        ((rule.seats_stand number here).names.registers r (λ awaited. subst (λ p. IsAwaited p (target_of seat.command) r) placed awaited)) holds
+    register_kept _ point_is = holds_kept (register_in seat.registers r) (register_value g number r) id
+        ((rule.seats_stand number here).names.registers r (λ awaited. subst (λ p. IsAwaited p (target_of seat.command) r) point_is awaited)) holds
 
   -- what a root is
   root_kept : (id : Id) → IsRoot g id → IsNamedKept id
   root_kept id root =
       let its : RegisterHolds g id = root_is_in_register g id root in
       elim (cases_lt its.number heap.seats) [
-        | inl here ↦ register_kept its.number its.register id here its.holds (seat_at state its.number).place refl
+        | inl here ↦ register_kept its.number its.register id here its.holds (seat_at state its.number).point refl
         | inr past ↦
             let nil = left_registers_are_nil heap book.history its.number rule.heap_stands.legal.objects
             (gone_stays_after_history (opening heap) its.number book.history rule.heap_stands.legal.objects (gone_at_opening heap its.number past)) its.register in

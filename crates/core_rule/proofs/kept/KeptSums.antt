@@ -8,7 +8,7 @@ use Rattle.core_rule.proofs.Terms.{Heap, Id, Board, Made, Graph, IsBefore, fragm
 use Rattle.core_rule.proofs.Terms.{Owner, Free, Taken, Borne, Kept, Dead}
 use Rattle.core_machine.proofs.table_lemmas.Free.{sum_of_nothing_is_zero}
 use Rattle.core_rule.specs.footprint.Footprint.{is_among, kept_bit}
-use Rattle.core_rule.proofs.kept.KeptParts.{part_bit, unkept_has_no_parts, part_count_is_size}
+use Rattle.core_rule.proofs.kept.KeptFragments.{object_bit, unkept_has_no_fragments, fragment_count_is_size}
 use Rattle.core_rule.proofs.graph.Numbering.{same_id_test_decides, id_at_own_number}
 use Rattle.core_rule.proofs.lists.SumLemmas.{sum_plus}
 use Rattle.core_rule.proofs.lists.Tallies.{one_at_same_is_one, one_at_other_is_none}
@@ -49,9 +49,9 @@ first_tells n (Dead i k) = inr (λ e. cc e)
 
 module _ (heap : Heap) (words : List ℕ) (g : Graph) (made : List Id) (owner : ℕ → Owner) (fragments : ℕ → List ℕ) {spines : ℕ → Spot} (ids : AreMade g made) (objects : Objects heap words g made owner fragments spines) where
   -- a fragment is of an object among some ids where it is of the first one's or of the others'
-  among_parts : (x : Id) (xs : List Id) → is_among xs x ≡ false → (o : Owner) → ((i k : ℕ) → o ≡ Kept i k → i < length made)
-      → kept_bit (is_among (x ∷ xs)) made o ≡ part_bit (object_number made x) o + kept_bit (is_among xs) made o
-  among_parts x xs apart (Kept i k) within = elim (same_id_test_decides (id_at made i) x) as (λ _. kept_bit (is_among (x ∷ xs)) made (Kept i k) ≡ part_bit (object_number made x) (Kept i k) + kept_bit (is_among xs) made (Kept i k)) [
+  among_summands : (x : Id) (xs : List Id) → is_among xs x ≡ false → (o : Owner) → ((i k : ℕ) → o ≡ Kept i k → i < length made)
+      → kept_bit (is_among (x ∷ xs)) made o ≡ object_bit (object_number made x) o + kept_bit (is_among xs) made o
+  among_summands x xs apart (Kept i k) within = elim (same_id_test_decides (id_at made i) x) as (λ _. kept_bit (is_among (x ∷ xs)) made (Kept i k) ≡ object_bit (object_number made x) (Kept i k) + kept_bit (is_among xs) made (Kept i k)) [
     | inl same ↦
         let number : i ≡ object_number made x = sym (ids.distinct i (within i k refl)) ∙ ap (object_number made) same.1 in
         let others : is_among xs (id_at made i) ≡ false = ap (is_among xs) same.1 ∙ apart in
@@ -60,15 +60,15 @@ module _ (heap : Heap) (words : List ℕ) (g : Graph) (made : List Id) (owner : 
         let number : i ≢ object_number made x = λ e. other.1 (ap (id_at made) e ∙ id_at_own_number made x (subst (λ j. j < length made) e (within i k refl))) in
         rw (other.0, one_at_other_is_none i (object_number made x) number) (omega arith)
   ]
-  among_parts x xs apart Free within = omega arith
-  among_parts x xs apart (Taken number) within = omega arith
-  among_parts x xs apart (Borne number) within = omega arith
-  among_parts x xs apart (Dead i k) within = omega arith
+  among_summands x xs apart Free within = omega arith
+  among_summands x xs apart (Taken number) within = omega arith
+  among_summands x xs apart (Borne number) within = omega arith
+  among_summands x xs apart (Dead i k) within = omega arith
 
   among_sum : (x : Id) (xs : List Id) → is_among xs x ≡ false → sum_upto (16 * heap.groups) (λ f. kept_bit (is_among (x ∷ xs)) made (owner f))
-      ≡ sum_upto (16 * heap.groups) (λ f. part_bit (object_number made x) (owner f)) + sum_upto (16 * heap.groups) (λ f. kept_bit (is_among xs) made (owner f))
-  among_sum x xs apart = sum_plus (16 * heap.groups) (λ f. kept_bit (is_among (x ∷ xs)) made (owner f)) (λ f. part_bit (object_number made x) (owner f)) (λ f. kept_bit (is_among xs) made (owner f))
-      (λ f less. among_parts x xs apart (owner f) (λ i k is. (objects.back f i k is).0))
+      ≡ sum_upto (16 * heap.groups) (λ f. object_bit (object_number made x) (owner f)) + sum_upto (16 * heap.groups) (λ f. kept_bit (is_among xs) made (owner f))
+  among_sum x xs apart = sum_plus (16 * heap.groups) (λ f. kept_bit (is_among (x ∷ xs)) made (owner f)) (λ f. object_bit (object_number made x) (owner f)) (λ f. kept_bit (is_among xs) made (owner f))
+      (λ f less. among_summands x xs apart (owner f) (λ i k is. (objects.back f i k is).0))
 
   none_among : (o : Owner) → kept_bit (is_among []) made o ≡ 0
   none_among (Kept i k) = refl
@@ -80,19 +80,19 @@ module _ (heap : Heap) (words : List ℕ) (g : Graph) (made : List Id) (owner : 
   module _ (outside : (f : ℕ) → 16 * heap.groups ≤ f → owner f ≡ Free) where
     -- a kept object's fragments are those of the graph's
     kept_size : (x : Id) → object_number made x < length made → IsKept owner fragments (object_number made x)
-        → sum_upto (16 * heap.groups) (λ f. part_bit (object_number made x) (owner f)) ≡ fragments_at g x
+        → sum_upto (16 * heap.groups) (λ f. object_bit (object_number made x) (owner f)) ≡ fragments_at g x
     kept_size x within kept =
         let its : id_at made (object_number made x) ≡ x = id_at_own_number made x within in
-        part_count_is_size heap words g made owner fragments ids objects (object_number made x) within kept outside ∙ ap (fragments_at g) its
+        fragment_count_is_size heap words g made owner fragments ids objects (object_number made x) within kept outside ∙ ap (fragments_at g) its
 
     -- and at most these where it may not be kept
-    most_size : (x : Id) → sum_upto (16 * heap.groups) (λ f. part_bit (object_number made x) (owner f)) ≤ fragments_at g x
+    most_size : (x : Id) → sum_upto (16 * heap.groups) (λ f. object_bit (object_number made x) (owner f)) ≤ fragments_at g x
     most_size x = elim (cases_lt (object_number made x) (length made)) [
       | inl within ↦ elim (first_tells (object_number made x) (owner (fragment_at (fragments (object_number made x)) 0))) [
         | inl kept ↦ omega (arith, kept_size x within kept)
-        | inr gone ↦ omega (arith, unkept_has_no_parts heap words g made owner fragments ids objects (object_number made x) (λ below kept. gone kept))
+        | inr gone ↦ omega (arith, unkept_has_no_fragments heap words g made owner fragments ids objects (object_number made x) (λ below kept. gone kept))
       ]
-      | inr past ↦ omega (arith, unkept_has_no_parts heap words g made owner fragments ids objects (object_number made x) (λ below kept. omega (arith, below, past)))
+      | inr past ↦ omega (arith, unkept_has_no_fragments heap words g made owner fragments ids objects (object_number made x) (λ below kept. omega (arith, below, past)))
     ]
 
     -- what is kept of some ids is no more than their objects have

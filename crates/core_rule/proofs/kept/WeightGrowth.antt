@@ -5,7 +5,7 @@ use Rattle.std.proofs.lemmas.List.Sums.{sum_by-append}
 use Rattle.heap_model.specs.declared.account.effect.Effect.{Effect}
 use Rattle.core_rule.proofs.Terms.{Entry, Heap, Id, effect_of, total, sum_upto, id_at, AreUsed, Owner, Free, Taken, Borne, Kept, Dead, taken_bit}
 use Rattle.core_rule.specs.footprint.Footprint.{is_among, inside_bit, kept_bit, in_groups_before, in_groups_from, ClearedWithin}
-use Rattle.core_rule.proofs.book.Going.{OwnerGoes, stays, is_taken, is_given, is_borne, takes_part, becomes_part, is_settled, is_freed, OwnersGoOn, MadeGoesOn}
+use Rattle.core_rule.proofs.book.Going.{OwnerGoes, stays, is_taken, is_given, is_borne, taken_becomes_kept, borne_becomes_kept, is_settled, is_freed, OwnersGoOn, MadeGoesOn}
 use Rattle.core_rule.proofs.lists.SumLemmas.{sum_le, sum_plus}
 
 -- a test counts once at most
@@ -22,8 +22,8 @@ test_later true now was more less = omega arith
 test_later false now was more less = less
 
 -- what was added to a history is added to its sums
-pub total_of_appended : (part : Effect → ℕ) (history added : List Entry) → total part (history ++ added) ≡ total part history + total part added
-total_of_appended part history added = sum_by-append (λ e. part (effect_of e)) history added
+pub total_of_appended : (summand : Effect → ℕ) (history added : List Entry) → total summand (history ++ added) ≡ total summand history + total summand added
+total_of_appended summand history added = sum_by-append (λ e. summand (effect_of e)) history added
 
 -- a number of each fragment that grows only where the fragment is taken grows by no more than what is taken
 module _ (heap : Heap) (count : ℕ) (owner now : ℕ → Owner) (history added : List Entry) (goes : OwnersGoOn count owner now) (used : AreUsed heap owner history) (used_now : AreUsed heap now (history ++ added)) where
@@ -61,8 +61,8 @@ module _ (made made_now : List Id) (ids : MadeGoesOn made made_now) where
   inside_goes inside _ _ within (is_taken number) = omega arith
   inside_goes inside _ _ within (is_given number) = omega arith
   inside_goes inside _ _ within (is_borne number) = omega arith
-  inside_goes inside _ _ within (takes_part number i k new) = omega (arith, test_counts_once (inside (id_at made_now i)))
-  inside_goes inside _ _ within (becomes_part number i k new) = omega (arith, test_counts_once (inside (id_at made_now i)))
+  inside_goes inside _ _ within (taken_becomes_kept number i k new) = omega (arith, test_counts_once (inside (id_at made_now i)))
+  inside_goes inside _ _ within (borne_becomes_kept number i k new) = omega (arith, test_counts_once (inside (id_at made_now i)))
   inside_goes inside _ _ within (is_settled i k) = omega arith
   inside_goes inside _ _ within (is_freed i k) = omega arith
 
@@ -77,8 +77,8 @@ module _ (made made_now : List Id) (ids : MadeGoesOn made made_now) where
   kept_goes begun _ _ within new (is_taken number) = omega arith
   kept_goes begun _ _ within new (is_given number) = omega arith
   kept_goes begun _ _ within new (is_borne number) = omega arith
-  kept_goes begun _ _ within new (takes_part number i k above) = rw (new i k refl above) (omega arith)
-  kept_goes begun _ _ within new (becomes_part number i k above) = rw (new i k refl above) (omega arith)
+  kept_goes begun _ _ within new (taken_becomes_kept number i k above) = rw (new i k refl above) (omega arith)
+  kept_goes begun _ _ within new (borne_becomes_kept number i k above) = rw (new i k refl above) (omega arith)
   kept_goes begun _ _ within new (is_settled i k) = omega arith
   kept_goes begun _ _ within new (is_freed i k) = omega arith
 

@@ -15,7 +15,7 @@ use Rattle.core_rule.proofs.kept.NewWords.{entry_makes_one, spine_words_stay_aft
 use Rattle.core_rule.proofs.graph.Numbering.{same_id_test_decides}
 use Rattle.core_rule.proofs.lists.SumLemmas.{sum-suc, sum_le, sum_plus}
 
--- a number at one place alone is no more in a sum
+-- a number at one position alone is no more in a sum
 sum_at_one : (n at c : ℕ) → sum_upto n (λ f. if at == f then c else 0) ≤ c
 sum_at_one zero at c = omega (arith, sum_upto-none (λ f. if at == f then c else 0))
 sum_at_one (suc n) at c = elim (eqb_tells at n) as (λ _. sum_upto (suc n) (λ f. if at == f then c else 0) ≤ c) [
@@ -133,8 +133,8 @@ module _ (heap : Heap) (words : List ℕ) (g : Graph) (made : List Id) (owner : 
         | inl was ↦ inl was
         | inr its ↦ inr (its.0, subst (λ h. spine_words_at h id ≡ c) same (spine_words_stay_after_history now later accepts.1 id there ∙ its.1))
       ] in
-      let parts = kept_sum_within_both heap owner (words_new earlier) (words_new now) (λ i. if i == object_number made makes.new then c else 0) (λ f i is. new_step earlier now makes.new c i (objects.back f i 0 is).0 others) in
-      omega (arith, parts, one_kept (object_number made makes.new) c, new_words_within_granted now later accepts.1 same, sum_by-cons (λ e. (effect_of e).words) entry later)
+      let summands = kept_sum_within_both heap owner (words_new earlier) (words_new now) (λ i. if i == object_number made makes.new then c else 0) (λ f i is. new_step earlier now makes.new c i (objects.back f i 0 is).0 others) in
+      omega (arith, summands, one_kept (object_number made makes.new) c, new_words_within_granted now later accepts.1 same, sum_by-cons (λ e. (effect_of e).words) entry later)
 
   -- what is kept of some ids has no more words than their objects
   pub kept_words_within_sizes : (earlier : Graph) → ((id : Id) → IsMade earlier id → spine_words_at g id ≡ spine_words_at earlier id) → (xs : List Id) → ((id : Id) → is_among xs id ≡ true → IsMade earlier id)
@@ -143,8 +143,8 @@ module _ (heap : Heap) (words : List ℕ) (g : Graph) (made : List Id) (owner : 
   kept_words_within_sizes earlier stay (x ∷ xs) all =
       let n : ℕ = object_number made x in
       let c : ℕ = spine_words_at earlier x in
-      let parts = kept_sum_within_both heap owner (words_among (x ∷ xs)) (λ i. if i == n then c else 0) (words_among xs) (λ f i is. by i (objects.back f i 0 is).0) in
-      omega (arith, parts, one_kept n c, kept_words_within_sizes earlier stay xs (λ id there. all id (rest id there)), sum_by-cons (spine_words_at earlier) x xs)
+      let summands = kept_sum_within_both heap owner (words_among (x ∷ xs)) (λ i. if i == n then c else 0) (words_among xs) (λ f i is. by i (objects.back f i 0 is).0) in
+      omega (arith, summands, one_kept n c, kept_words_within_sizes earlier stay xs (λ id there. all id (rest id there)), sum_by-cons (spine_words_at earlier) x xs)
     where
       rest : (id : Id) → is_among xs id ≡ true → is_among (x ∷ xs) id ≡ true
       rest id there = elim (same_id_test_decides id x) as (λ _. is_among (x ∷ xs) id ≡ true) [

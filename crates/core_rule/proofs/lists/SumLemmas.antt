@@ -24,13 +24,13 @@ sum_plus (suc n) f g h same =
     let last : f n ≡ g n + h n = same n (omega arith) in
     rw (sum-suc n f, sum-suc n g, sum-suc n h) (omega arith)
 
--- a sum in two parts
-pub sum_parts : (a b : ℕ) (f : ℕ → ℕ) → sum_upto (a + b) f ≡ sum_upto a f + sum_upto b (λ i. f (a + i))
-sum_parts a zero f =
+-- a sum in two summands
+pub sum_in_two_summands : (a b : ℕ) (f : ℕ → ℕ) → sum_upto (a + b) f ≡ sum_upto a f + sum_upto b (λ i. f (a + i))
+sum_in_two_summands a zero f =
     let none : a + 0 ≡ a = omega arith in
     rw (none, sum_upto-none (λ i. f (a + i))) (omega arith)
-sum_parts a (suc b) f =
-    let rest : sum_upto (a + b) f ≡ sum_upto a f + sum_upto b (λ i. f (a + i)) = sum_parts a b f in
+sum_in_two_summands a (suc b) f =
+    let rest : sum_upto (a + b) f ≡ sum_upto a f + sum_upto b (λ i. f (a + i)) = sum_in_two_summands a b f in
     let one : a + suc b ≡ suc (a + b) = omega arith in
     rw (one, sum-suc (a + b) f, sum-suc b (λ i. f (a + i))) (omega arith)
 
@@ -50,16 +50,16 @@ sum_blocks size zero f =
 sum_blocks size (suc n) f =
     let rest = sum_blocks size n f in
     let more : size * suc n ≡ size * n + size = grind arith in
-    rw (more, sum_parts (size * n) size f, sum-suc n (λ i. sum_upto size (λ j. f (size * i + j))), rest) refl
+    rw (more, sum_in_two_summands (size * n) size f, sum-suc n (λ i. sum_upto size (λ j. f (size * i + j))), rest) refl
 
 -- a sum that begins at c and wraps
 pub sum_wrapped : (n c : ℕ) (f : ℕ → ℕ) → c < n → sum_upto n (λ j. f ((c + j) % n)) ≡ sum_upto n f
 sum_wrapped n c f within =
     let whole : c + (n - c) ≡ n = omega (arith, within) in
     let turned : (n - c) + c ≡ n = omega (arith, within) in
-    let parts : sum_upto (c + (n - c)) f ≡ sum_upto c f + sum_upto (n - c) (λ i. f (c + i)) = sum_parts c (n - c) f in
+    let summands : sum_upto (c + (n - c)) f ≡ sum_upto c f + sum_upto (n - c) (λ i. f (c + i)) = sum_in_two_summands c (n - c) f in
     let wrapped : sum_upto ((n - c) + c) (λ j. f ((c + j) % n)) ≡ sum_upto (n - c) (λ j. f ((c + j) % n)) + sum_upto c (λ i. f ((c + ((n - c) + i)) % n))
-    = sum_parts (n - c) c (λ j. f ((c + j) % n)) in
+    = sum_in_two_summands (n - c) c (λ j. f ((c + j) % n)) in
     let first : sum_upto (n - c) (λ j. f ((c + j) % n)) ≡ sum_upto (n - c) (λ i. f (c + i))
     = sum_of_same_functions (n - c) (λ j. f ((c + j) % n)) (λ i. f (c + i)) (λ j below. ap f (mod_below (c + j) n (omega (arith, below, within)))) in
     let second : sum_upto c (λ i. f ((c + ((n - c) + i)) % n)) ≡ sum_upto c f
@@ -67,7 +67,7 @@ sum_wrapped n c f within =
     let left : sum_upto n (λ j. f ((c + j) % n)) ≡ sum_upto (n - c) (λ i. f (c + i)) + sum_upto c f
     = subst (λ m. sum_upto m (λ j. f ((c + j) % n)) ≡ sum_upto (n - c) (λ i. f (c + i)) + sum_upto c f) turned (omega (arith, wrapped, first, second)) in
     let right : sum_upto n f ≡ sum_upto c f + sum_upto (n - c) (λ i. f (c + i))
-    = subst (λ m. sum_upto m f ≡ sum_upto c f + sum_upto (n - c) (λ i. f (c + i))) whole parts in
+    = subst (λ m. sum_upto m f ≡ sum_upto c f + sum_upto (n - c) (λ i. f (c + i))) whole summands in
     omega (arith, left, right)
   where
     mod_below : (a m : ℕ) → a < m → a % m ≡ a

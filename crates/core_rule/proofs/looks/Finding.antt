@@ -3,13 +3,13 @@ use Rattle.std.specs.Prelude.{if◌then◌else◌}
 use Rattle.std.proofs.Common.{◌≡◌, ◌≢◌, ℕ, suc, ◌+◌, ◌<◌, inl, inr, false, List, [], Option, Some, None, IfSome, refl, sym, ◌∙◌, subst, arith}
 use Rattle.std.proofs.lemmas.Bool.Decides.{leb_tells}
 use Rattle.std.proofs.lemmas.List.{append-nil}
-use Rattle.core_rule.proofs.Terms.{Entry, Heap, phase, last_answer, has_left, since_reply, is_reply_to, Place, State, at, Book, Rule}
+use Rattle.core_rule.proofs.Terms.{Entry, Heap, phase, last_answer, has_left, since_reply, is_reply_to, Point, State, at, Book, Rule}
 use Rattle.heap_model.specs.Behind.{behind_of}
 use Rattle.heap_model.specs.account.Phases.{IsBehind, WasBehind}
-use Rattle.heap_model.proofs.account_lemmas.Windows.{window_parts_make_whole, total_since_reply}
-use Rattle.core_machine.specs.declared.place.Access.TheVariants.{Naming}
-use Rattle.core_machine.specs.declared.place.Collecting.TheVariants.{Asking, Comparing}
-use Rattle.core_machine.specs.declared.place.Place.TheVariants as places
+use Rattle.heap_model.proofs.account_lemmas.Windows.{window_sections_make_whole, total_since_reply}
+use Rattle.core_machine.specs.declared.point.Access.TheVariants.{Naming}
+use Rattle.core_machine.specs.declared.point.Collecting.TheVariants.{Asking, Comparing}
+use Rattle.core_machine.specs.declared.point.Point.TheVariants as points
 use Rattle.core_machine.specs.declared.table.address.Address.TheVariants.{Answer, Phase}
 use Rattle.core_machine.specs.declared.seat.looks.Looks.{Looks}
 use Rattle.core_machine.specs.seat.Looks.{first_of, looked, seen_phase, compared, found_behind}
@@ -27,8 +27,8 @@ module _ (heap : Heap) (state : State) (book : Book) (rule : Rule heap state boo
   is_phase = rule.heap_stands.cycle.word
 
   -- a load of the phase
-  pub looks_stand_after_seen : (place : Place) (looks : Looks) → ((other p : ℕ) → place ≢ places.Collecting (Comparing other p)) → LooksStand heap history number place looks → LooksStand heap history number place (seen_phase found looks)
-  looks_stand_after_seen place looks uncompared stands = record {
+  pub looks_stand_after_seen : (point : Point) (looks : Looks) → ((other p : ℕ) → point ≢ points.Collecting (Comparing other p)) → LooksStand heap history number point looks → LooksStand heap history number point (seen_phase found looks)
+  looks_stand_after_seen point looks uncompared stands = record {
     seen = omega (arith, is_phase);
     found = λ unnamed. record { first = (stands.found unnamed).first; behind = (stands.found unnamed).behind };
     asks = stands.asks;
@@ -36,7 +36,7 @@ module _ (heap : Heap) (state : State) (book : Book) (rule : Rule heap state boo
   }
 
   -- nothing is compared any more
-  over : (looks : Looks) (other p : ℕ) → places.Idle ≡ places.Collecting (Comparing other p) → p ≡ looks.seen
+  over : (looks : Looks) (other p : ℕ) → points.Idle ≡ points.Collecting (Comparing other p) → p ≡ looks.seen
   over looks other p comparing = absurd (cc comparing)
 
   seen_now : WasSeen history number found
@@ -47,14 +47,14 @@ module _ (heap : Heap) (state : State) (book : Book) (rule : Rule heap state boo
   first_now (Some p) seen = seen
 
   -- a look
-  pub looks_stand_after_look : (place : Place) (looks : Looks) → place ≢ places.Access Naming → LooksStand heap history number place looks → LooksStand heap history number places.Idle (looked found looks)
-  looks_stand_after_look place looks unnamed stands =
+  pub looks_stand_after_look : (point : Point) (looks : Looks) → point ≢ points.Access Naming → LooksStand heap history number point looks → LooksStand heap history number points.Idle (looked found looks)
+  looks_stand_after_look point looks unnamed stands =
       let was = stands.found unnamed in
       record { seen = omega (arith, is_phase); found = λ still. record { first = first_now looks.first was.first; behind = was.behind }; asks = tt; compares = over (looked found looks) }
 
   -- the phase with which another seat's word is to be compared
-  pub looks_stand_while_comparing : (other : ℕ) (looks : Looks) → LooksStand heap history number (places.Collecting (Asking other)) looks
-      → LooksStand heap history number (places.Collecting (Comparing other found)) (seen_phase found looks)
+  pub looks_stand_while_comparing : (other : ℕ) (looks : Looks) → LooksStand heap history number (points.Collecting (Asking other)) looks
+      → LooksStand heap history number (points.Collecting (Comparing other found)) (seen_phase found looks)
   looks_stand_while_comparing other looks stands =
       let was = stands.found (λ named. cc named) in
       let asked : IsOther heap number other = stands.asks in
@@ -78,18 +78,18 @@ module _ (heap : Heap) (state : State) (book : Book) (rule : Rule heap state boo
               since_reply number history,
               [],
               sym (append-nil (since_reply number history)),
-              subst (λ es. IsBehind other (last_answer other history) found es) (sym (window_parts_make_whole (is_reply_to number) history)) record { present = present; answered = refl; here = sym is_phase },
+              subst (λ es. IsBehind other (last_answer other history) found es) (sym (window_sections_make_whole (is_reply_to number) history)) record { present = present; answered = refl; here = sym is_phase },
             ),
           )
 
   -- another seat's word
-  pub looks_stand_after_compare : (other p : ℕ) (looks : Looks) → LooksStand heap history number (places.Collecting (Comparing other p)) looks
-      → LooksStand heap history number places.Idle (compared other p (at heap state.words (Answer other)) looks)
+  pub looks_stand_after_compare : (other p : ℕ) (looks : Looks) → LooksStand heap history number (points.Collecting (Comparing other p)) looks
+      → LooksStand heap history number points.Idle (compared other p (at heap state.words (Answer other)) looks)
   looks_stand_after_compare other p looks stands =
-      elim (leb_tells (suc word) p) as (λ _. LooksStand heap history number places.Idle (compared other p word looks)) [
-        | inl less ↦ subst (λ b. LooksStand heap history number places.Idle (if b then found_behind (behind_of other word p) looks else record looks { behind = None }))
+      elim (leb_tells (suc word) p) as (λ _. LooksStand heap history number points.Idle (compared other p word looks)) [
+        | inl less ↦ subst (λ b. LooksStand heap history number points.Idle (if b then found_behind (behind_of other word p) looks else record looks { behind = None }))
             (sym less.0) record { seen = stands.seen; found = λ still. record { first = (stands.found (λ named. cc named)).first; behind = behind less.1 }; asks = tt; compares = over looks }
-        | inr more ↦ subst (λ b. LooksStand heap history number places.Idle (if b then found_behind (behind_of other word p) looks else record looks { behind = None }))
+        | inr more ↦ subst (λ b. LooksStand heap history number points.Idle (if b then found_behind (behind_of other word p) looks else record looks { behind = None }))
             (sym more.0) record { seen = stands.seen; found = λ still. record { first = (stands.found (λ named. cc named)).first; behind = tt }; asks = tt; compares = over looks }
       ]
     where

@@ -10,7 +10,7 @@ use Rattle.core_rule.specs.Stands.{Stands}
 use Rattle.core_rule.specs.looks.Finds.{FollowsSteps, step_made, EachEventIsFollowed}
 use Rattle.core_rule.proofs.looks.Ways.{stays_found_after_begin}
 use Rattle.core_rule.proofs.looks.Follows.{MoveFollows, looks_follow_blind_step}
-use Rattle.core_rule.proofs.steps.Seats.{step_kind_of_each_place}
+use Rattle.core_rule.proofs.steps.Seats.{step_kind_of_each_point}
 
 module _ (heap : Heap) (state : State) where
   -- where one seat is another
@@ -57,7 +57,7 @@ looks_follow_event heap state book (Steps other) number stands can below =
     elim (eqb_tells number other) as (λ _. FollowsSteps heap state (step_made heap state number (Steps other)) (seat_at state number).looks (seat_at (state_after heap state (Steps other)) number).looks) [
       | inl same ↦ rw same.0 (subst (λ n. FollowsSteps heap state (due_step heap number (seat_at state number)) (seat_at state number).looks (seat_at (state_after heap state (Steps n)) number).looks) same.1
           (own_step heap state number (rw stands.rule.machine.seated below) (next_move heap number (seat_at state number))
-          ((step_kind_of_each_place (seat_at state number).place).looks.follows heap state number (seat_at state number) (stands.looks number below).compares refl)))
+          ((step_kind_of_each_point (seat_at state number).point).looks.follows heap state number (seat_at state number) (stands.looks number below).compares refl)))
       | inr apart ↦ rw apart.0 (unmoved heap state _ _ (other_step heap state number other apart.0 (next_move heap other (seat_at state other))))
     ]
 looks_follow_event heap state book Turns number stands can below = unmoved heap state _ _ refl

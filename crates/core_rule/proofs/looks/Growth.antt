@@ -2,13 +2,13 @@
 use Rattle.std.specs.List.{list_any}
 use Rattle.std.proofs.Common.{◌≡◌, ◌≢◌, ◌||◌, ℕ, ◌+◌, ◌≤◌, Bool, true, false, List, [], ◌∷◌, ◌++◌, refl, sym, ap, ◌∙◌, subst, arith, append_assoc}
 use Rattle.std.proofs.lemmas.List.{append-nil}
-use Rattle.core_rule.proofs.Terms.{Entry, Heap, phase, last_answer, up_to_last, after_last, up_to_reply, since_reply, is_reply_to, Place}
+use Rattle.core_rule.proofs.Terms.{Entry, Heap, phase, last_answer, up_to_last, after_last, up_to_reply, since_reply, is_reply_to, Point}
 use Rattle.heap_model.specs.account.Phases.{IsBehind, WasBehind}
 use Rattle.heap_model.proofs.account_lemmas.Windows.{up_to_last-no, after_last-no}
-use Rattle.core_machine.specs.declared.place.Access.TheVariants.{Naming}
-use Rattle.core_machine.specs.declared.place.Collecting.{Collecting}
-use Rattle.core_machine.specs.declared.place.Collecting.TheVariants.{Looking, Asking, Comparing, Noting}
-use Rattle.core_machine.specs.declared.place.Place.TheVariants as places
+use Rattle.core_machine.specs.declared.point.Access.TheVariants.{Naming}
+use Rattle.core_machine.specs.declared.point.Collecting.{Collecting}
+use Rattle.core_machine.specs.declared.point.Collecting.TheVariants.{Looking, Asking, Comparing, Noting}
+use Rattle.core_machine.specs.declared.point.Point.TheVariants as points
 use Rattle.core_machine.specs.declared.seat.looks.Looks.{Looks}
 use Rattle.heap_model.specs.declared.behind.Behind.{Behind}
 use Rattle.core_machine.specs.seat.Looks.{forgotten}
@@ -21,22 +21,22 @@ use Rattle.core_rule.proofs.lists.Options.{if_some_goes_on}
 abbrev pub NoneOf : (Entry → Bool) → List Entry → Type 0
 NoneOf test added = list_any test added ≡ false
 
-any_parts : (a b : Bool) → (a || b) ≡ false → (a ≡ false) × (b ≡ false)
-any_parts true b none = cc
-any_parts false b none = (refl, none)
+neither_holds : (a b : Bool) → (a || b) ≡ false → (a ≡ false) × (b ≡ false)
+neither_holds true b none = cc
+neither_holds false b none = (refl, none)
 
 pub up_to_last_stays : (test : Entry → Bool) (before added : List Entry) → NoneOf test added → up_to_last test (before ++ added) ≡ up_to_last test before
 up_to_last_stays test before [] none = ap (up_to_last test) (append-nil before)
 up_to_last_stays test before (entry ∷ more) none =
-    let parts = any_parts (test entry) (list_any test more) none in
-    ap (up_to_last test) (sym (append_assoc before (entry ∷ []) more)) ∙ up_to_last_stays test (before ++ entry ∷ []) more parts.1 ∙ up_to_last-no test before entry parts.0
+    let sides = neither_holds (test entry) (list_any test more) none in
+    ap (up_to_last test) (sym (append_assoc before (entry ∷ []) more)) ∙ up_to_last_stays test (before ++ entry ∷ []) more sides.1 ∙ up_to_last-no test before entry sides.0
 
 pub after_last-none : (test : Entry → Bool) (before added : List Entry) → NoneOf test added → after_last test (before ++ added) ≡ after_last test before ++ added
 after_last-none test before [] none = ap (after_last test) (append-nil before) ∙ sym (append-nil (after_last test before))
 after_last-none test before (entry ∷ more) none =
-    let parts = any_parts (test entry) (list_any test more) none in
-    ap (after_last test) (sym (append_assoc before (entry ∷ []) more)) ∙ after_last-none test (before ++ entry ∷ []) more parts.1
-    ∙ ap (λ es. es ++ more) (after_last-no test before entry parts.0) ∙ append_assoc (after_last test before) (entry ∷ []) more
+    let sides = neither_holds (test entry) (list_any test more) none in
+    ap (after_last test) (sym (append_assoc before (entry ∷ []) more)) ∙ after_last-none test (before ++ entry ∷ []) more sides.1
+    ∙ ap (λ es. es ++ more) (after_last-no test before entry sides.0) ∙ append_assoc (after_last test before) (entry ∷ []) more
 
 phase_grows : (before added : List Entry) → phase before ≤ phase (before ++ added)
 phase_grows before added = omega (arith, total_of_appended (λ e. e.phases) before added)
@@ -76,55 +76,55 @@ module _ (heap : Heap) (number : ℕ) (before added : List Entry) (none : NoneOf
         (old.0 ∙ ap (λ n. n + 1) (sym same), behind_on other (last_answer other now) p (subst (λ a. WasBehind number other a p before) (sym same) old.1));
   }
 
-  collecting_on : (place : Collecting) → CollectingStands heap before number place → CollectingStands heap now number place
+  collecting_on : (point : Collecting) → CollectingStands heap before number point → CollectingStands heap now number point
   collecting_on Looking stands = tt
   collecting_on (Asking other) stands = stands
   collecting_on (Comparing other p) stands = compares_on other p stands
   collecting_on (Noting reply) stands = tt
 
-  asks_on : (place : Place) → WhileCollecting (CollectingStands heap before number) place → WhileCollecting (CollectingStands heap now number) place
-  asks_on (places.Collecting place) stands = collecting_on place stands
+  asks_on : (point : Point) → WhileCollecting (CollectingStands heap before number) point → WhileCollecting (CollectingStands heap now number) point
+  asks_on (points.Collecting point) stands = collecting_on point stands
   asks_on _ stands = tt
 
   -- where none of the entries is a reply to the seat
-  pub looks_stand_without_reply : (place : Place) (looks : Looks) → LooksStand heap before number place looks → LooksStand heap now number place looks
-  looks_stand_without_reply place looks stands = record {
+  pub looks_stand_without_reply : (point : Point) (looks : Looks) → LooksStand heap before number point looks → LooksStand heap now number point looks
+  looks_stand_without_reply point looks stands = record {
     seen = omega (arith, stands.seen, phase_grows before added);
     found = λ unnamed. let was = stands.found unnamed in record {
       first = if_some_goes_on (WasSeen before number) (WasSeen now number) seen_on looks.first was.first;
       behind = if_some_goes_on (WasFound heap before number) (WasFound heap now number) found_on looks.behind was.behind;
     };
-    asks = asks_on place stands.asks;
+    asks = asks_on point stands.asks;
     compares = stands.compares;
   }
 
--- the place is none of an inner call of its own
-abbrev pub IsElsewhere : Place → Type 0
-IsElsewhere (places.Collecting place) = ⊥
+-- the point is none of an inner call of its own
+abbrev pub IsElsewhere : Point → Type 0
+IsElsewhere (points.Collecting point) = ⊥
 IsElsewhere _ = Unit {0}
 
-nothing_asked : (P : Collecting → Type 0) (place : Place) → IsElsewhere place → WhileCollecting P place
-nothing_asked P (places.Collecting place) elsewhere = absurd elsewhere
+nothing_asked : (P : Collecting → Type 0) (point : Point) → IsElsewhere point → WhileCollecting P point
+nothing_asked P (points.Collecting point) elsewhere = absurd elsewhere
 nothing_asked P _ elsewhere = tt
 
 -- there nothing is compared
-nothing_compared : (place : Place) (looks : Looks) → IsElsewhere place → (other p : ℕ) → place ≡ places.Collecting (Comparing other p) → p ≡ looks.seen
-nothing_compared place looks elsewhere other p comparing = absurd (subst IsElsewhere comparing elsewhere)
+nothing_compared : (point : Point) (looks : Looks) → IsElsewhere point → (other p : ℕ) → point ≡ points.Collecting (Comparing other p) → p ≡ looks.seen
+nothing_compared point looks elsewhere other p comparing = absurd (subst IsElsewhere comparing elsewhere)
 
 -- where the seat goes elsewhere
-pub looks_stand_elsewhere : (heap : Heap) (history : List Entry) (number : ℕ) (place next : Place) (looks : Looks) → place ≢ places.Access Naming → IsElsewhere next
-    → LooksStand heap history number place looks → LooksStand heap history number next looks
-looks_stand_elsewhere heap history number place next looks unnamed elsewhere stands =
+pub looks_stand_elsewhere : (heap : Heap) (history : List Entry) (number : ℕ) (point next : Point) (looks : Looks) → point ≢ points.Access Naming → IsElsewhere next
+    → LooksStand heap history number point looks → LooksStand heap history number next looks
+looks_stand_elsewhere heap history number point next looks unnamed elsewhere stands =
     record { seen = stands.seen; found = λ still. stands.found unnamed; asks = nothing_asked (CollectingStands heap history number) next elsewhere; compares = nothing_compared next looks elsewhere }
 
 -- after a reply all is forgotten
-pub looks_stand_after_reply : (heap : Heap) (before added : List Entry) (number : ℕ) (place : Place) (looks : Looks) → LooksStand heap before number place looks
-    → LooksStand heap (before ++ added) number places.Idle (forgotten looks)
-looks_stand_after_reply heap before added number place looks stands =
-    record { seen = omega (arith, stands.seen, phase_grows before added); found = λ unnamed. record { first = tt; behind = tt }; asks = tt; compares = nothing_compared places.Idle (forgotten looks) tt }
+pub looks_stand_after_reply : (heap : Heap) (before added : List Entry) (number : ℕ) (point : Point) (looks : Looks) → LooksStand heap before number point looks
+    → LooksStand heap (before ++ added) number points.Idle (forgotten looks)
+looks_stand_after_reply heap before added number point looks stands =
+    record { seen = omega (arith, stands.seen, phase_grows before added); found = λ unnamed. record { first = tt; behind = tt }; asks = tt; compares = nothing_compared points.Idle (forgotten looks) tt }
 
 -- and where a name is awaited it is about to be
-pub looks_stand_while_awaiting : (heap : Heap) (before added : List Entry) (number : ℕ) (place : Place) (looks : Looks) → LooksStand heap before number place looks
-    → LooksStand heap (before ++ added) number (places.Access Naming) looks
-looks_stand_while_awaiting heap before added number place looks stands =
-    record { seen = omega (arith, stands.seen, phase_grows before added); found = λ unnamed. absurd (unnamed refl); asks = tt; compares = nothing_compared (places.Access Naming) looks tt }
+pub looks_stand_while_awaiting : (heap : Heap) (before added : List Entry) (number : ℕ) (point : Point) (looks : Looks) → LooksStand heap before number point looks
+    → LooksStand heap (before ++ added) number (points.Access Naming) looks
+looks_stand_while_awaiting heap before added number point looks stands =
+    record { seen = omega (arith, stands.seen, phase_grows before added); found = λ unnamed. absurd (unnamed refl); asks = tt; compares = nothing_compared (points.Access Naming) looks tt }

@@ -4,7 +4,7 @@ use Rattle.core_rule.proofs.Terms.{cycle_phases, Heap, graph_of, phase, State, B
 use Rattle.core_rule.proofs.Terms.{from_white, IsGuarded, IsReached, Rule}
 use Rattle.heap_model.specs.PhasePlan.{marking as marking_phase}
 use Rattle.core_rule.proofs.marking.Paths.{grey_or_black}
-use Rattle.core_rule.proofs.ways.Chains.{holds_of_all_parts}
+use Rattle.core_rule.proofs.ways.Chains.{holds_of_all_fragments}
 use Rattle.core_rule.proofs.objects.SpinePlaces.{array_spine_fits_spot}
 
 module _ (heap : Heap) (words : List ℕ) (owner : ℕ → Owner) (colour : ℕ → Colour) (none : (f : ℕ) → colour f ≢ Grey) where
@@ -39,5 +39,5 @@ module _ (heap : Heap) (state : State) (book : Book) (rule : Rule heap state boo
       → k < length (book.fragments i) → IsMarked book.colour (fragment_at (book.fragments i) k)
   whole_object_is_marked i k below kept first within =
       let stands = rule.heap_stands in
-      holds_of_all_parts heap state.words (graph_of heap book.history) book.made book.owner book.fragments rule.machine.limits stands.control_words stands.ids stands.owners stands.objects i below kept
+      holds_of_all_fragments heap state.words (graph_of heap book.history) book.made book.owner book.fragments rule.machine.limits stands.control_words stands.ids stands.owners stands.objects i below kept
       (IsMarked book.colour) (array_spine_fits_spot rule i below kept) first (λ f source x marked leads. marked_leads_to_marked f source x marked leads) k within

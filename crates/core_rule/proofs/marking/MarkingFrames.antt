@@ -1,6 +1,6 @@
 -- What a step leaves of marking that marks no fragment of an object.
 use Rattle.std.proofs.Common.{◌⊎◌, ◌≡◌, ◌≢◌, ℕ, ◌<◌, ◌≤◌, List, Option, Some, false, inl, inr, sym, ap, ◌∙◌, subst, arith, ◌*◌, ◌+◌}
-use Rattle.core_rule.proofs.Terms.{Heap, spot_in, Stage, Colour, White, Grey, Black, fragment_at, IsMarked, WordPointsTo, DeletionBarrier, IsPart, MayMark, IsSeen, IsSeenWhole}
+use Rattle.core_rule.proofs.Terms.{Heap, spot_in, Stage, Colour, White, Grey, Black, fragment_at, IsMarked, WordPointsTo, DeletionBarrier, IsKeptFragment, MayMark, IsSeen, IsSeenWhole}
 use Rattle.core_rule.proofs.Terms.{IsSpineOf, ComesAfter, ScanStands, PassStands, AfterMarking, MarkingStands, IsSettled, AreFreed, AreDead, AreCleared, SweepStands, Owner, Kept}
 use Rattle.core_rule.proofs.Terms.{Dead, born_bit, dead_bit, IsWhite, Edge, IsReached}
 use Rattle.core_machine.specs.declared.collector.stage.SpineScan.{SpineScan}
@@ -72,15 +72,15 @@ module _ (heap : Heap) (words now : List ℕ) (owner later : ℕ → Owner) (col
   grey_on : (f : ℕ) → colour f ≡ Grey → coloured f ≡ Grey
   grey_on f grey = same_colour f (grey_born f grey) ∙ grey
 
-  part_on : (f : ℕ) → IsPart owner f → IsPart later f
-  part_on f part = record { index = part.index; place = part.place; kept = (leaves.kept f part.index part.place part.kept).0 }
+  kept_fragment_on : (f : ℕ) → IsKeptFragment owner f → IsKeptFragment later f
+  kept_fragment_on f kept_fragment = record { index = kept_fragment.index; position = kept_fragment.position; kept = (leaves.kept f kept_fragment.index kept_fragment.position kept_fragment.kept).0 }
 
   may_on : (f : ℕ) → MayMark owner colour fragments f → MayMark later coloured bodies f
   may_on f may = record {
-    part = record { index = may.part.index; place = may.part.place; kept = (leaves.kept f may.part.index may.part.place may.part.kept).0 };
-    first = elim may.first as (λ _. (may.part.place ≡ 0) ⊎ IsMarked coloured (fragment_at (bodies may.part.index) 0)) [
+    kept_fragment = record { index = may.kept_fragment.index; position = may.kept_fragment.position; kept = (leaves.kept f may.kept_fragment.index may.kept_fragment.position may.kept_fragment.kept).0 };
+    first = elim may.first as (λ _. (may.kept_fragment.position ≡ 0) ⊎ IsMarked coloured (fragment_at (bodies may.kept_fragment.index) 0)) [
       | inl head ↦ inl head
-      | inr marked ↦ inr (subst (λ fs. IsMarked coloured (fragment_at fs 0)) (sym (leaves.kept f may.part.index may.part.place may.part.kept).1) (marks_on _ marked))
+      | inr marked ↦ inr (subst (λ fs. IsMarked coloured (fragment_at fs 0)) (sym (leaves.kept f may.kept_fragment.index may.kept_fragment.position may.kept_fragment.kept).1) (marks_on _ marked))
     ];
   }
 
@@ -191,14 +191,14 @@ module _ (heap : Heap) (words now : List ℕ) (owner later : ℕ → Owner) (col
       (λ one. let now_dead = dead_bit_is_dead (later f) one in ap dead_bit (leaves.was_dead f now_dead.0 now_dead.1 now_dead.2))
 
   dead_stays : (group bits : ℕ) → AreDead owner group bits → AreDead later group bits
-  dead_stays group bits are place below = are place below ∙ sym (dead_same (16 * group + place))
+  dead_stays group bits are position below = are position below ∙ sym (dead_same (16 * group + position))
 
   cleared_stays : clears → (group : ℕ) → AreCleared colour group → AreCleared coloured group
   cleared_stays known group cleared f below = leaves.light known f (cleared f below)
 
   sweep_stays : (phase : ℕ) (stage : Stage) → OnlyClears clears stage → SweepStands heap owner colour phase stage → SweepStands heap later coloured phase stage
   sweep_stays phase (stages.Sweeping group) is stands = freed_stays group stands
-  sweep_stays phase (stages.Examining group dead place counted) is stands = (freed_stays group stands.0, dead_stays group dead stands.1)
+  sweep_stays phase (stages.Examining group dead position counted) is stands = (freed_stays group stands.0, dead_stays group dead stands.1)
   sweep_stays phase (stages.Freeing group dead counted) is stands = (freed_stays group stands.0, dead_stays group dead stands.1)
   sweep_stays phase (stages.Returning group counted) is stands = freed_stays (group + 1) stands
   sweep_stays phase (stages.Clearing group kept) is stands = cleared_stays is group stands
@@ -210,7 +210,7 @@ module _ (heap : Heap) (words now : List ℕ) (owner later : ℕ → Owner) (col
   pub marking_stands_as_before : (phase : ℕ) (stage : Stage) → OnlyMarks marks stage → OnlyClears clears stage → (IsSettled phase stage → settles)
       → MarkingStands heap words owner colour fragments phase stage → MarkingStands heap now later coloured bodies phase stage
   marking_stands_as_before phase stage is clear known stands = record {
-    grey = λ f grey. part_on f (stands.grey f (grey_was f grey));
+    grey = λ f grey. kept_fragment_on f (stands.grey f (grey_was f grey));
     scan = scan_stays stage is stands.scan;
     few = stands.few;
     pass = pass_stays stage stands.pass;

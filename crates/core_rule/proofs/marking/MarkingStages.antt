@@ -25,7 +25,7 @@ pub marking_is_plain : (stage : Stage) → OfMarking stage → IsPlain stage
 marking_is_plain stages.Looking marks = marks
 marking_is_plain stages.Advancing marks = marks
 marking_is_plain (stages.Copying stage) marks = marks
-marking_is_plain (stages.Examining group dead place counted) marks = marks
+marking_is_plain (stages.Examining group dead position counted) marks = marks
 marking_is_plain (stages.Freeing group dead counted) marks = marks
 marking_is_plain (stages.Returning group counted) marks = marks
 marking_is_plain _ marks = tt

@@ -1,14 +1,14 @@
 -- What a seat's step has to leave of marking.
 use Rattle.std.proofs.Common.{◌≡◌, ◌≢◌, ℕ, ◌<◌, ◌%◌, false, List, inl, inr, refl, sym, ◌∙◌, subst, arith}
-use Rattle.core_rule.proofs.Terms.{cycle_phases, Heap, phase, Collector, Stage, LoadingMeta, Walking, Indexing, Getting, LoadingOld, ShadingOld, ShadingNew, Swapping, Place, State}
-use Rattle.core_rule.proofs.Terms.{seat_at, register_in, register_head, Seat, head_of, Book, Colour, Grey, WordPointsTo, IsBetween, WhileAccess, IsPart, ScanStands, IsFewWords}
+use Rattle.core_rule.proofs.Terms.{cycle_phases, Heap, phase, Collector, Stage, LoadingMeta, Walking, Indexing, Getting, LoadingOld, ShadingOld, ShadingNew, Swapping, Point, State}
+use Rattle.core_rule.proofs.Terms.{seat_at, register_in, register_head, Seat, head_of, Book, Colour, Grey, WordPointsTo, IsBetween, WhileAccess, IsKeptFragment, ScanStands, IsFewWords}
 use Rattle.core_rule.proofs.Terms.{PassStands, MarkingStands, SweepStands, HasMarked, IsSettled, Owner, Free, Taken, Borne, Kept, Dead, born_bit, IsReached, Rule}
 use Rattle.heap_model.specs.PhasePlan.{clearing as clearing_phase, marking as marking_phase}
 use Rattle.core_machine.specs.declared.collector.stage.Stage.TheVariants as stages
 use Rattle.core_machine.specs.collector.FitsTurns.{FitsStage}
-use Rattle.core_machine.specs.declared.place.Access.{Access}
-use Rattle.core_machine.specs.declared.place.Access.TheVariants.{LoadingSpot, Naming}
-use Rattle.core_machine.specs.declared.place.Place.TheVariants as places
+use Rattle.core_machine.specs.declared.point.Access.{Access}
+use Rattle.core_machine.specs.declared.point.Access.TheVariants.{LoadingSpot, Naming}
+use Rattle.core_machine.specs.declared.point.Point.TheVariants as call_points
 use Rattle.core_rule.specs.roots.Roots.{IsInMarking, AtCall, OfRoots, RootsAreReached}
 use Rattle.core_rule.proofs.colours.LeadsFrames.{SameSources, led_before_where_same, leads_now_where_same}
 use Rattle.core_rule.proofs.colours.SpineStays.{spine_stays_where_same}
@@ -22,10 +22,10 @@ use Rattle.core_rule.proofs.marking.MarkingFrames.{LeavesMarking, OnlyMarks, Onl
 pub roots_hold_still : (P Q : ℕ → Type 0) → ((f : ℕ) → P f → Q f) → (seat : Seat) → OfRoots P seat → OfRoots Q seat
 roots_hold_still P Q more seat roots = record {
   registers = λ r. if_some_goes_on P Q more (register_head (register_in seat.registers r)) (roots.registers r);
-  call = while_access_goes_on (AtCall P seat) (AtCall Q seat) each seat.place roots.call;
+  call = while_access_goes_on (AtCall P seat) (AtCall Q seat) each seat.point roots.call;
 }
   where
-    each : (place : Access) → AtCall P seat place → AtCall Q seat place
+    each : (point : Access) → AtCall P seat point → AtCall Q seat point
     each LoadingMeta holds = more seat.reached holds
     each Walking holds = more seat.reached holds
     each LoadingSpot holds = more seat.reached holds
@@ -38,19 +38,19 @@ roots_hold_still P Q more seat roots = record {
     each Swapping holds = more seat.reached holds
 
 -- the call isn't on a way to a field
-abbrev pub IsOffWay : Place → Type 0
-IsOffWay (places.Access place) = ⊥
+abbrev pub IsOffWay : Point → Type 0
+IsOffWay (call_points.Access point) = ⊥
 IsOffWay _ = Unit {0}
 
 -- then its registers' objects are all its roots
-pub roots_hold_off_way : (P : ℕ → Type 0) (seat next : Seat) → next.registers ≡ seat.registers → IsOffWay next.place → OfRoots P seat → OfRoots P next
+pub roots_hold_off_way : (P : ℕ → Type 0) (seat next : Seat) → next.registers ≡ seat.registers → IsOffWay next.point → OfRoots P seat → OfRoots P next
 roots_hold_off_way P seat next same off roots = record {
   registers = λ r. rw same (roots.registers r);
-  call = nowhere next.place off;
+  call = nowhere next.point off;
 }
   where
-    nowhere : (place : Place) → IsOffWay place → WhileAccess (AtCall P next) place
-    nowhere (places.Access place) off = absurd off
+    nowhere : (point : Point) → IsOffWay point → WhileAccess (AtCall P next) point
+    nowhere (call_points.Access point) off = absurd off
     nowhere _ off = tt
 
 -- a seat's step leaves what is true of marking, and each root that it comes to; and it comes to the seat's own roots
@@ -83,7 +83,7 @@ marking_is_not_settled phase stage third goes (inr (inr sweeps)) = omega (arith,
 
 -- what stands at a stage of marking: nothing is to be freed yet
 pub marking_stands_at_stage : (heap : Heap) (words : List ℕ) (owner : ℕ → Owner) (colour : ℕ → Colour) (fragments : ℕ → List ℕ) (phase : ℕ) (stage : Stage) → phase % cycle_phases ≡ marking_phase → OfMarking stage
-    → ((f : ℕ) → colour f ≡ Grey → IsPart owner f) → ScanStands heap words owner colour fragments stage → IsFewWords stage → PassStands colour stage → SweepStands heap owner colour phase stage
+    → ((f : ℕ) → colour f ≡ Grey → IsKeptFragment owner f) → ScanStands heap words owner colour fragments stage → IsFewWords stage → PassStands colour stage → SweepStands heap owner colour phase stage
     → ((f i k : ℕ) → owner f ≢ Dead i k) → MarkingStands heap words owner colour fragments phase stage
 marking_stands_at_stage heap words owner colour fragments phase stage third goes grey scan few pass sweep alive = record {
   grey = grey;
@@ -183,7 +183,7 @@ module _ (heap : Heap) (state : State) (book : Book) (rule : Rule heap state boo
       by marks f (Dead i k) is born = absurd (nothing_is_dead marks.phase marks.goes_on f i k is)
 
   module _ (words : List ℕ) (now : Book) (leaves : Leaves words now) where
-    -- so the heap's part of marking stands
+    -- so the heap's marking stands
     pub marking_stands_after_step : MarkingStands heap words now.owner now.colour now.fragments state.collector.phase state.collector.stage
     marking_stands_after_step =
         marking_stands_as_before heap state.words words book.owner now.owner book.colour now.colour book.fragments now.fragments (IsInMarking state.collector)
@@ -214,6 +214,6 @@ module _ (heap : Heap) (state : State) (book : Book) (rule : Rule heap state boo
 
     -- and where its registers stay, and its call is on no way
     pub marks_go_on_off_way : (words : List ℕ) (now : Book) (next : Seat) → Leaves words now → next.answered ≡ (seat_at state number).answered
-        → next.registers ≡ (seat_at state number).registers → IsOffWay next.place → MarksGoOn heap state book now words next
+        → next.registers ≡ (seat_at state number).registers → IsOffWay next.point → MarksGoOn heap state book now words next
     marks_go_on_off_way words now next leaves same registers off =
         marks_go_on words now next leaves same (λ marks. roots_hold_off_way (IsReached heap state.words book.owner book.colour) (seat_at state number) next registers off)

@@ -30,10 +30,10 @@ name_numbers_are_small Board fits = (omega arith, omega arith)
 name_numbers_are_small (Made s count) fits = (omega (arith, fits.0), fits.1)
 
 -- the fragment is one of these
-pub record IsPartOf (fragments : List ℕ) (x : ℕ) : Type 0 where
-  pub place : ℕ
-  pub within : place < length fragments
-  pub is : x ≡ fragment_at fragments place
+pub record IsFragmentOf (fragments : List ℕ) (x : ℕ) : Type 0 where
+  pub position : ℕ
+  pub within : position < length fragments
+  pub is : x ≡ fragment_at fragments position
 
 module _ (heap : Heap) (words : List ℕ) (g : Graph) (made : List Id) (owner : ℕ → Owner) (fragments : ℕ → List ℕ) {spines : ℕ → Spot}
     (limits : IsHeap heap) (bits : Bits heap words owner) (ids : AreMade g made) (objects : Objects heap words g made owner fragments spines)
@@ -63,7 +63,7 @@ module _ (heap : Heap) (words : List ℕ) (g : Graph) (made : List Id) (owner : 
       let named = objects.named i j below kept cell there in
       let room = named_value_has_room heap words g made owner fragments limits bits cell.value named.0 in
       record {
-        place = j;
+        position = j;
         cell = cell;
         there = there;
         refers = value_refers_to_head made owner fragments cell.value named.0 x
@@ -102,42 +102,42 @@ module _ (heap : Heap) (words : List ℕ) (g : Graph) (made : List Id) (owner : 
       (λ kind later. cell_no_spine (4 * (k - 1) + 0) (slice_get object.cells (4 * (k - 1) + 0)) refl)
 
   module _ (fits : object.array ≡ true → FitsSpot (spines i)) where
-    next_part : (k x : ℕ) → IsNext (fragments i) fragment_is_small k x → IsPartOf (fragments i) x
-    next_part k x next = record { place = k + 1; within = next.0; is = next.1 }
+    next_fragment : (k x : ℕ) → IsNext (fragments i) fragment_is_small k x → IsFragmentOf (fragments i) x
+    next_fragment k x next = record { position = k + 1; within = next.0; is = next.1 }
 
     -- where a word leads
     word_refers : (k part x : ℕ) → k < length (fragments i) → part < 4 → pointer_in part (at heap words (Word (fragment_at (fragments i) k) part)) ≡ Some x
-        → IsPartOf (fragments i) x ⊎ CellRefers g made owner fragments i x
+        → IsFragmentOf (fragments i) x ⊎ CellRefers g made owner fragments i x
     word_refers k part x within first =
-        found_cases (λ w. pointer_in part w ≡ Some x → IsPartOf (fragments i) x ⊎ CellRefers g made owner fragments i x) k part within first
+        found_cases (λ w. pointer_in part w ≡ Some x → IsFragmentOf (fragments i) x ⊎ CellRefers g made owner fragments i x) k part within first
         (λ kind is to. inr (cell_leads (3 * k + part - 2) part (slice_get object.cells (3 * k + part - 2)) refl x to))
-        (λ kind is to. inl (next_part k x (newborn_leads_to_next (fragments i) fragment_is_small (name_of (id_at made i)) (length object.cells) k part x fits_name.0 fits_name.1 (omega (arith, few)) to)))
+        (λ kind is to. inl (next_fragment k x (newborn_leads_to_next (fragments i) fragment_is_small (name_of (id_at made i)) (length object.cells) k part x fits_name.0 fits_name.1 (omega (arith, few)) to)))
         (λ kind is to. absurd (let nowhere = sentinel_leads_nowhere (name_of (id_at made i)) (length object.cells) (spines i) part fits_name.0 fits_name.1 (omega (arith, few)) (fits kind) in cc (nowhere, to)))
         (λ kind later to. inr (cell_leads (4 * (k - 1) + part) part (slice_get object.cells (4 * (k - 1) + part)) refl x to))
 
     -- and a word of an array's spine
-    spine_refers : object.array ≡ true → (j x : ℕ) → spine_pointer heap words (fragment_at (fragments i) 0) j ≡ Some x → IsPartOf (fragments i) x
+    spine_refers : object.array ≡ true → (j x : ℕ) → spine_pointer heap words (fragment_at (fragments i) 0) j ≡ Some x → IsFragmentOf (fragments i) x
     spine_refers kind j x to =
         let its = spine_lead_is_payload heap words (fragment_at (fragments i) 0) j x to in
         let within : j < spine_words_of object = subst (λ n. j < n) (meta_tells_spine_words heap words g made owner fragments limits bits ids objects i below kept kind) its.0 in
         let payload = spine_word_tells_payload heap words g made owner fragments limits bits ids objects i below kept j within in
         record {
-          place = j + 1;
+          position = j + 1;
           within = payload.0;
           is = its.1 ∙ ap (λ s. payload_in (at heap words (spine_place s j))) (word_tells_spine_spot heap words g made owner fragments limits bits ids objects i below kept kind (fits kind)) ∙ payload.1;
         }
 
     -- and where each source does: to a fragment of the object, or to what a cell refers to
     pub object_refers : (k source x : ℕ) → k < length (fragments i) → WordPointsTo heap words (fragment_at (fragments i) k) source x
-        → IsPartOf (fragments i) x ⊎ CellRefers g made owner fragments i x
-    object_refers k source x within = lead_cases heap words (fragment_at (fragments i) k) (IsPartOf (fragments i) x ⊎ CellRefers g made owner fragments i x) source x
+        → IsFragmentOf (fragments i) x ⊎ CellRefers g made owner fragments i x
+    object_refers k source x within = lead_cases heap words (fragment_at (fragments i) k) (IsFragmentOf (fragments i) x ⊎ CellRefers g made owner fragments i x) source x
         (λ first to. word_refers k source x within first to)
-        (λ behind to. array_or_record_cases heap words g made owner fragments limits bits ids objects i below kept (IsPartOf (fragments i) x ⊎ CellRefers g made owner fragments i x)
+        (λ behind to. array_or_record_cases heap words g made owner fragments limits bits ids objects i below kept (IsFragmentOf (fragments i) x ⊎ CellRefers g made owner fragments i x)
         (λ kind. by_row kind k within to)
         (λ kind. absurd (no_spine_word_leads heap words (fragment_at (fragments i) k) (object_no_spine k within (λ array. absurd (cc (kind, array)))) (source - 4) x to)))
       where
         by_row : object.array ≡ true → (n : ℕ) → n < length (fragments i) → spine_pointer heap words (fragment_at (fragments i) n) (source - 4) ≡ Some x
-            → IsPartOf (fragments i) x ⊎ CellRefers g made owner fragments i x
+            → IsFragmentOf (fragments i) x ⊎ CellRefers g made owner fragments i x
         by_row kind zero inside to = inl (spine_refers kind (source - 4) x to)
         by_row kind (suc n) inside to = absurd (no_spine_word_leads heap words (fragment_at (fragments i) (suc n)) (object_no_spine (suc n) inside (λ array. omega arith)) (source - 4) x to)
 
@@ -167,18 +167,18 @@ module _ (heap : Heap) (state : State) (book : Book) (rule : Rule heap state boo
       by (suc n) later array kind = kept_tells_no_spine (λ _. omega (arith, later)) ∙ sym (no_words_behind_first (suc n) (spine_words_of its_object) (omega arith))
 
   -- and each of its sources leads to a fragment of its object, or to what a cell of that refers to
-  pub kept_leads_to_part_or_cell : (source x : ℕ) → WordPointsTo heap state.words f source x
-      → IsPartOf (book.fragments i) x ⊎ CellRefers (graph_of heap book.history) book.made book.owner book.fragments i x
-  kept_leads_to_part_or_cell source x leads =
+  pub kept_leads_to_fragment_or_cell : (source x : ℕ) → WordPointsTo heap state.words f source x
+      → IsFragmentOf (book.fragments i) x ⊎ CellRefers (graph_of heap book.history) book.made book.owner book.fragments i x
+  kept_leads_to_fragment_or_cell source x leads =
       object_refers heap state.words (graph_of heap book.history) book.made book.owner book.fragments rule.machine.limits rule.heap_stands.control_words rule.heap_stands.ids
       rule.heap_stands.objects i there.0 there.1 (array_spine_fits_spot rule i there.0 there.1) k source x there.2 (subst (λ y. WordPointsTo heap state.words y source x) there.3 leads)
 
-  pub kept_leads_to_kept : (source x : ℕ) → WordPointsTo heap state.words f source x → IsPartOf (book.fragments i) x ⊎ KeptHead book.made book.owner book.fragments x
-  kept_leads_to_kept source x leads = elim (kept_leads_to_part_or_cell source x leads) [
-    | inl part ↦ inl part
+  pub kept_leads_to_kept : (source x : ℕ) → WordPointsTo heap state.words f source x → IsFragmentOf (book.fragments i) x ⊎ KeptHead book.made book.owner book.fragments x
+  kept_leads_to_kept source x leads = elim (kept_leads_to_fragment_or_cell source x leads) [
+    | inl fragment ↦ inl fragment
     | inr cell ↦ inr (referred_is_kept_head book.made book.owner book.fragments cell.cell.value x cell.refers)
   ]
 
-  -- whose part that is
-  pub part_is_kept : (x : ℕ) (part : IsPartOf (book.fragments i) x) → book.owner x ≡ Kept i part.place
-  part_is_kept x part = ap book.owner part.is ∙ (rule.heap_stands.objects.kept i there.0 there.1).owned part.place part.within
+  -- whose fragment that is
+  pub fragment_is_kept : (x : ℕ) (fragment : IsFragmentOf (book.fragments i) x) → book.owner x ≡ Kept i fragment.position
+  fragment_is_kept x fragment = ap book.owner fragment.is ∙ (rule.heap_stands.objects.kept i there.0 there.1).owned fragment.position fragment.within

@@ -9,12 +9,12 @@ use Rattle.heap_words.specs.declared.kind.Kind.TheVariants as kinds
 use Rattle.heap_words.specs.declared.name.Name.{Name}
 use Rattle.heap_words.specs.Cell.{cell_of}
 use Rattle.core_rule.proofs.Terms.{Heap, graph_of, phase, Graph, Node, Word, State, pointer_in, is_meta, is_fixed, array_length_in, array_length_of, at, link_after, Book, Colour}
-use Rattle.core_rule.proofs.Terms.{Grey, fragment_at, id_at, object_head, IsMarked, WordPointsTo, IsBetween, IsPart, MayMark, IsSeen, ComesAfter, IsKept, KeptObject, name_of}
+use Rattle.core_rule.proofs.Terms.{Grey, fragment_at, id_at, object_head, IsMarked, WordPointsTo, IsBetween, IsKeptFragment, MayMark, IsSeen, ComesAfter, IsKept, KeptObject, name_of}
 use Rattle.core_rule.proofs.Terms.{is_cell, node_at, Kept, Rule}
 use Rattle.core_machine.specs.collector.Marking.{part_after}
 use Rattle.core_rule.proofs.colours.NewbornLeads.{newborn_word_is_link}
 use Rattle.core_rule.proofs.colours.SourceCases.{word_pointer_of_lead}
-use Rattle.core_rule.proofs.marking.ObjectEdges.{name_numbers_are_small, fragment_is_small, found_cases, cell_is_no_meta, kept_leads_to_kept, part_is_kept}
+use Rattle.core_rule.proofs.marking.ObjectEdges.{name_numbers_are_small, fragment_is_small, found_cases, cell_is_no_meta, kept_leads_to_kept, fragment_is_kept}
 use Rattle.core_rule.proofs.objects.ObjectWords.{object_word_is_name}
 use Rattle.core_rule.proofs.objects.SpinePlaces.{array_spine_fits_spot}
 use Rattle.core_rule.proofs.ways.ArrayWords.{fixed_word_has_no_head, sentinel_leads_nowhere}
@@ -39,15 +39,15 @@ told_meta kinds.Nil cell cells told = absurd (cc told)
 told_meta kinds.Number cell cells told = absurd (cc told)
 told_meta kinds.Reference cell cells told = absurd (cc told)
 
-module _ (heap : Heap) (state : State) (book : Book) (rule : Rule heap state book) (f : ℕ) (part_of : IsPart book.owner f) where
+module _ (heap : Heap) (state : State) (book : Book) (rule : Rule heap state book) (f : ℕ) (source_fragment : IsKeptFragment book.owner f) where
   abbrev i : ℕ
-  i = part_of.index
+  i = source_fragment.index
 
   abbrev k : ℕ
-  k = part_of.place
+  k = source_fragment.position
 
   there : (i < length book.made) × IsKept book.owner book.fragments i × (k < length (book.fragments i)) × (f ≡ fragment_at (book.fragments i) k)
-  there = rule.heap_stands.objects.back f i k part_of.kept
+  there = rule.heap_stands.objects.back f i k source_fragment.kept
 
   abbrev object : Node
   object = node_at (graph_of heap book.history) book.made i
@@ -57,12 +57,12 @@ module _ (heap : Heap) (state : State) (book : Book) (rule : Rule heap state boo
 
   -- where a fragment of a kept object is grey, what it leads to may be marked
   pub grey_target_may_be_marked : IsBetween 1 5 (phase book.history) → book.colour f ≡ Grey → (source m : ℕ) → WordPointsTo heap state.words f source m → MayMark book.owner book.colour book.fragments m
-  grey_target_may_be_marked cycle grey source m leads = elim (kept_leads_to_kept heap state book rule f i k part_of.kept source m leads) as (λ _. MayMark book.owner book.colour book.fragments m) [
-    | inl part ↦ record {
-      part = record { index = i; place = part.place; kept = part_is_kept heap state book rule f i k part_of.kept m part };
-      first = inr (rule.heap_stands.cycle.coloured.first cycle f i k part_of.kept (λ white. absurd (cc (grey, white))));
+  grey_target_may_be_marked cycle grey source m leads = elim (kept_leads_to_kept heap state book rule f i k source_fragment.kept source m leads) as (λ _. MayMark book.owner book.colour book.fragments m) [
+    | inl fragment ↦ record {
+      kept_fragment = record { index = i; position = fragment.position; kept = fragment_is_kept heap state book rule f i k source_fragment.kept m fragment };
+      first = inr (rule.heap_stands.cycle.coloured.first cycle f i k source_fragment.kept (λ white. absurd (cc (grey, white))));
     }
-    | inr head ↦ record { part = record { index = head.index; place = 0; kept = ap book.owner head.is ∙ head.kept }; first = inl refl }
+    | inr head ↦ record { kept_fragment = record { index = head.index; position = 0; kept = ap book.owner head.is ∙ head.kept }; first = inl refl }
   ]
 
   -- an object's name leads nowhere
@@ -137,7 +137,7 @@ module _ (heap : Heap) (state : State) (book : Book) (rule : Rule heap state boo
   next_part_comes_after zero = by (is_meta (at heap state.words (Word f 0))) refl
     where
       by : (meta : Bool) → is_meta (at heap state.words (Word f 0)) ≡ meta → ComesAfter book.owner f 0 (if meta then 2 else 1)
-      by true is = inr (refl, refl, (i, part_of.kept ∙ ap (Kept i) (meta_first k refl is)))
+      by true is = inr (refl, refl, (i, source_fragment.kept ∙ ap (Kept i) (meta_first k refl is)))
       by false is = inl refl
   next_part_comes_after (suc part) = let later : eqb (suc part) 0 ≡ false = grind arith in inl (rw later refl)
 
@@ -147,7 +147,7 @@ module _ (heap : Heap) (state : State) (book : Book) (rule : Rule heap state boo
   seen_up_to_next words colour part next back seen here comes = record { grey = seen.grey; seen = λ p g below leads. each p g below leads comes }
     where
       first : (j : ℕ) → book.owner f ≡ Kept j 0 → k ≡ 0
-      first j is = let both : Kept i k ≡ Kept j 0 = sym part_of.kept ∙ is in cc
+      first j is = let both : Kept i k ≡ Kept j 0 = sym source_fragment.kept ∙ is in cc
 
       each : (p g : ℕ) → p < next → WordPointsTo heap words f p g → ComesAfter book.owner f part next → IsMarked colour g
       each p g below leads comes = elim (eqb_tells p part) as (λ _. IsMarked colour g) [

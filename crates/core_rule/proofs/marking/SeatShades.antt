@@ -1,7 +1,7 @@
 -- A seat marks a kept object's fragment: its step leaves marking.
 use Rattle.std.specs.Prelude.{bit_or}
 use Rattle.std.proofs.Common.{◌≡◌, ℕ, ◌*◌, ◌/◌, ◌<◌, List, false, sym, ◌∙◌, subst, arith, ◌%◌, ◌≢◌, ap}
-use Rattle.core_rule.proofs.Terms.{cycle_phases, Heap, Control, IsPassing, State, seat_at, Seat, at, put, Book, WordPointsTo, IsPart, HasMarked, IsReached, Rule}
+use Rattle.core_rule.proofs.Terms.{cycle_phases, Heap, Control, IsPassing, State, seat_at, Seat, at, put, Book, WordPointsTo, IsKeptFragment, HasMarked, IsReached, Rule}
 use Rattle.heap_model.specs.PhasePlan.{clearing as clearing_phase}
 use Rattle.core_machine.specs.declared.collector.stage.Stage.TheVariants as stages
 use Rattle.core_machine.specs.table.Operation.{shade_bit_of}
@@ -34,11 +34,11 @@ module _ (heap : Heap) (state : State) (book : Book) (rule : Rule heap state boo
   reached_after_mark = reached_stays_after_shade heap state.words words_marked book.owner book.colour f leads_on
 
   -- where it comes to the fragment, all of it goes on
-  pub marks_go_on_after_shade : (number : ℕ) (here : number < heap.seats) (next : Seat) → IsPart book.owner f → (seat_at state number).left ≡ false → next.answered ≡ (seat_at state number).answered
+  pub marks_go_on_after_shade : (number : ℕ) (here : number < heap.seats) (next : Seat) → IsKeptFragment book.owner f → (seat_at state number).left ≡ false → next.answered ≡ (seat_at state number).answered
       → (IsInMarking state.collector → (seat_at state number).answered ≡ state.collector.phase → IsReached heap state.words book.owner book.colour f)
       → RootsGoOn heap state book rule number here next → ((seat_at state number).answered % cycle_phases ≢ clearing_phase) → MarksGoOn heap state book (record book { colour = with_mark book.colour f }) words_marked next
-  marks_go_on_after_shade number here next part present same comes roots early = record {
-    heap_on = marking_stands_after_shade heap state.words words_marked book.owner book.colour book.fragments f part same_sources_after_mark state.collector.phase state.collector.stage unclear passing rule.marks_stand.heap_marks;
+  marks_go_on_after_shade number here next kept_fragment present same comes roots early = record {
+    heap_on = marking_stands_after_shade heap state.words words_marked book.owner book.colour book.fragments f kept_fragment same_sources_after_mark state.collector.phase state.collector.stage unclear passing rule.marks_stand.heap_marks;
     reached_on = λ marks. reached_after_mark;
     own_on = λ marks answered. roots_hold_still (IsReached heap state.words book.owner book.colour) (IsReached heap words_marked book.owner (with_mark book.colour f)) reached_after_mark next
         (roots marks (rule.marks_stand.roots number here marks (sym same ∙ answered)));

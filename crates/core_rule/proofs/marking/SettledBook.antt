@@ -1,4 +1,4 @@
--- The rule's parts for the book once marking has ended.
+-- The rule's conjuncts for the book once marking has ended.
 use Rattle.std.proofs.Common.{◌≡◌, ◌≢◌, ℕ, ◌<◌, ◌≤◌, ◌%◌, Bool, true, false, length, drop, inl, inr, refl, sym, ap, ◌∙◌, subst, arith}
 use Rattle.core_rule.proofs.Terms.{cycle_phases, Heap, graph_of, phase, IsMarking, State, seat_at, IsAtRest, Seat, tally, Book, White, Grey, AfterMarking, MarkingStands, Owner}
 use Rattle.core_rule.proofs.Terms.{Borne, Kept, Dead, IsSeated, IsBoards, taken_bit, free_bit, born_bit, holds_bit, bears_bit, IsWhite, node_at, Rule, HeapStands, SeatStands}
@@ -76,14 +76,14 @@ module _ (heap : Heap) (state : State) (book : Book) (rule : Rule heap state boo
         };
         names = record {
           registers = λ r awake. holds_value_after_settling book.made book.owner book.colour book.fragments _ _ (roots.registers r) (stands.names.registers r awake);
-          way = way_stands_after_settling book.made book.owner book.colour book.fragments seat roots.registers loaded (node_at (graph_of heap book.history) book.made) seat.place stands.names.way;
-          address = address_stands_after_settling heap state.words book.owner book.colour book.fragments book.spine_owner (node_at (graph_of heap book.history) book.made) book.spines seat seat.place stands.names.address;
+          way = way_stands_after_settling book.made book.owner book.colour book.fragments seat roots.registers loaded (node_at (graph_of heap book.history) book.made) seat.point stands.names.way;
+          address = address_stands_after_settling heap state.words book.owner book.colour book.fragments book.spine_owner (node_at (graph_of heap book.history) book.made) book.spines seat seat.point stands.names.address;
         };
         told = record {
           list = record {
             awaited = stands.told.list.awaited;
             own = stands.told.list.own;
-            awaits = awaits_after_settling book.made book.owner book.colour book.fragments seat roots.registers loaded (graph_of heap book.history) number seat.place stands.told.list.awaited stands.told.list.awaits;
+            awaits = awaits_after_settling book.made book.owner book.colour book.fragments seat roots.registers loaded (graph_of heap book.history) number seat.point stands.told.list.awaited stands.told.list.awaits;
           };
           counts = stands.told.counts;
           began = stands.told.began;
@@ -108,7 +108,7 @@ module _ (heap : Heap) (state : State) (book : Book) (rule : Rule heap state boo
       by : (left : Bool) → (seat_at state number).left ≡ left → ⊥
       by true left =
           let idle = ((seat_fits rule number there.0).gone left).idle in
-          let rest : IsAtRest (seat_at state number) = rw idle at (seat_fits rule number there.0).at_place in
+          let rest : IsAtRest (seat_at state number) = rw idle at (seat_fits rule number there.0).at_point in
           let bare : tally f (seat_at state number).body ≡ 0 = ap (tally f) rest.no_body in
           omega (arith, bare, there.1)
       by false present =

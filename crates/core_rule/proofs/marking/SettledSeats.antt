@@ -1,11 +1,11 @@
 -- A seat once marking has ended: what it names is kept then.
 use Rattle.std.proofs.Common.{ℕ, List, IfSome, ap, subst}
-use Rattle.core_rule.proofs.Terms.{Entry, Id, Value, Graph, Node, LoadingMeta, Walking, Indexing, Getting, LoadingOld, ShadingOld, ShadingNew, Swapping, Place, Register, object_of}
+use Rattle.core_rule.proofs.Terms.{Entry, Id, Value, Graph, Node, LoadingMeta, Walking, Indexing, Getting, LoadingOld, ShadingOld, ShadingNew, Swapping, Point, Register, object_of}
 use Rattle.core_rule.proofs.Terms.{register_in, register_head, Seat, head_of, Colour, fragment_at, IsMarked, Awaits, IsKept, Owner, HoldsValue, OnWay, Finds, Locates, LoadedKept}
 use Rattle.core_rule.proofs.Terms.{WayStands}
 use Rattle.heap_model.specs.declared.id.Value.TheVariants as values
-use Rattle.core_machine.specs.declared.place.Access.TheVariants.{LoadingSpot, Naming}
-use Rattle.core_machine.specs.declared.place.Place.TheVariants as places
+use Rattle.core_machine.specs.declared.point.Access.TheVariants.{LoadingSpot, Naming}
+use Rattle.core_machine.specs.declared.point.Point.TheVariants as points
 use Rattle.core_machine.specs.declared.seat.register.Register.TheVariants as registers
 use Rattle.core_rule.proofs.lists.Options.{holds_of_some}
 use Rattle.core_rule.proofs.marking.Settled.{settled_owners, marked_kept_stays_kept}
@@ -56,22 +56,22 @@ module _ (made : List Id) (owner : ℕ → Owner) (colour : ℕ → Colour) (fra
       loads = old.loads;
     }
 
-    -- so its way stands at its place
-    pub way_stands_after_settling : (nodes : ℕ → Node) (place : Place) → WayStands nodes made owner fragments seat place → WayStands nodes made later fragments seat place
-    way_stands_after_settling nodes (places.Access LoadingMeta) way = record { index = way.index; way = way_later way.index 0 way.way }
-    way_stands_after_settling nodes (places.Access Walking) way = finds_later nodes way
-    way_stands_after_settling nodes (places.Access LoadingSpot) way = locates_later nodes way
-    way_stands_after_settling nodes (places.Access Indexing) way = locates_later nodes way
-    way_stands_after_settling nodes (places.Access Getting) way = finds_later nodes way
-    way_stands_after_settling nodes (places.Access LoadingOld) way = finds_later nodes way
-    way_stands_after_settling nodes (places.Access ShadingOld) way = (finds_later nodes way.0, old_later way.1)
-    way_stands_after_settling nodes (places.Access ShadingNew) way = (finds_later nodes way.0, λ some. old_later (way.1 some))
-    way_stands_after_settling nodes (places.Access Swapping) way = (finds_later nodes way.0, λ some. old_later (way.1 some))
+    -- so its way stands at its point
+    pub way_stands_after_settling : (nodes : ℕ → Node) (point : Point) → WayStands nodes made owner fragments seat point → WayStands nodes made later fragments seat point
+    way_stands_after_settling nodes (points.Access LoadingMeta) way = record { index = way.index; way = way_later way.index 0 way.way }
+    way_stands_after_settling nodes (points.Access Walking) way = finds_later nodes way
+    way_stands_after_settling nodes (points.Access LoadingSpot) way = locates_later nodes way
+    way_stands_after_settling nodes (points.Access Indexing) way = locates_later nodes way
+    way_stands_after_settling nodes (points.Access Getting) way = finds_later nodes way
+    way_stands_after_settling nodes (points.Access LoadingOld) way = finds_later nodes way
+    way_stands_after_settling nodes (points.Access ShadingOld) way = (finds_later nodes way.0, old_later way.1)
+    way_stands_after_settling nodes (points.Access ShadingNew) way = (finds_later nodes way.0, λ some. old_later (way.1 some))
+    way_stands_after_settling nodes (points.Access Swapping) way = (finds_later nodes way.0, λ some. old_later (way.1 some))
     way_stands_after_settling nodes _ way = way
 
     -- and the name that its own list awaits
-    pub awaits_after_settling : (g : Graph) (number : ℕ) (place : Place) (awaited : List Entry) → Awaits g made owner fragments number seat place awaited → Awaits g made later fragments number seat place awaited
-    awaits_after_settling g number (places.Access Naming) awaited waits = record {
+    pub awaits_after_settling : (g : Graph) (number : ℕ) (point : Point) (awaited : List Entry) → Awaits g made owner fragments number seat point awaited → Awaits g made later fragments number seat point awaited
+    awaits_after_settling g number (points.Access Naming) awaited waits = record {
       id = waits.id;
       kept = names_kept_after_settling made owner colour fragments (values.Object waits.id) waits.kept (holds_of_some (IsMarked colour) _ _ waits.loads loaded);
       loads = waits.loads;

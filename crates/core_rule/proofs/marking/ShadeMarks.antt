@@ -1,7 +1,7 @@
 -- A fragment of a kept object is marked: what stays of marking.
 use Rattle.std.proofs.Common.{◌⊎◌, ◌≡◌, ℕ, ◌+◌, ◌≤◌, ◌/◌, List, Some, false, inl, inr, refl, sym, ap, ◌∙◌, subst, arith}
 use Rattle.std.proofs.lemmas.Bool.Decides.{eqb_tells}
-use Rattle.core_rule.proofs.Terms.{spot_in, Heap, Stage, spine_words_in, Colour, White, Grey, fragment_at, IsMarked, WordPointsTo, IsPart, MayMark, IsSeen, IsSeenWhole, IsSpineOf}
+use Rattle.core_rule.proofs.Terms.{spot_in, Heap, Stage, spine_words_in, Colour, White, Grey, fragment_at, IsMarked, WordPointsTo, IsKeptFragment, MayMark, IsSeen, IsSeenWhole, IsSpineOf}
 use Rattle.core_rule.proofs.Terms.{ScanStands, PassStands, AfterMarking, MarkingStands, SweepStands, Owner, Kept, Dead, born_bit, Guarded, from_grey, from_white, IsReached}
 use Rattle.core_machine.specs.declared.collector.stage.SpineScan.{SpineScan}
 use Rattle.core_machine.specs.declared.collector.stage.Stage.TheVariants as stages
@@ -17,7 +17,7 @@ pub path_grey : (edge : ℕ → ℕ → Type 0) (white grey : ℕ → Type 0) (x
 path_grey edge white grey x (from_grey f _ is leads whites) = (f, is)
 path_grey edge white grey x (from_white f _ path leads whites) = path_grey edge white grey f path
 
-module _ (heap : Heap) (words now : List ℕ) (owner : ℕ → Owner) (colour : ℕ → Colour) (fragments : ℕ → List ℕ) (m : ℕ) (kept : IsPart owner m)
+module _ (heap : Heap) (words now : List ℕ) (owner : ℕ → Owner) (colour : ℕ → Colour) (fragments : ℕ → List ℕ) (m : ℕ) (kept : IsKeptFragment owner m)
     (same : (f : ℕ) → SameSources heap words now f) where
   abbrev shaded : ℕ → Colour
   shaded = with_mark colour m
@@ -48,8 +48,8 @@ module _ (heap : Heap) (words now : List ℕ) (owner : ℕ → Owner) (colour : 
 
   may_on : (f : ℕ) → MayMark owner colour fragments f → MayMark owner shaded fragments f
   may_on f may = record {
-    part = may.part;
-    first = elim may.first as (λ _. (may.part.place ≡ 0) ⊎ IsMarked shaded (fragment_at (fragments may.part.index) 0)) [
+    kept_fragment = may.kept_fragment;
+    first = elim may.first as (λ _. (may.kept_fragment.position ≡ 0) ⊎ IsMarked shaded (fragment_at (fragments may.kept_fragment.index) 0)) [
       | inl head ↦ inl head
       | inr marked ↦ inr (mark_keeps_marked colour m _ marked)
     ];
@@ -65,11 +65,11 @@ module _ (heap : Heap) (words now : List ℕ) (owner : ℕ → Owner) (colour : 
     ]
   ]
 
-  -- what is grey is part of a kept object
-  pub grey_is_part : ((f : ℕ) → colour f ≡ Grey → IsPart owner f) → (f : ℕ) → shaded f ≡ Grey → IsPart owner f
-  grey_is_part parts f grey = elim (grey_was f grey) as (λ _. IsPart owner f) [
-    | inl was ↦ parts f was
-    | inr new ↦ subst (IsPart owner) (sym new.0) kept
+  -- what is grey is a fragment of a kept object
+  pub grey_is_kept_fragment : ((f : ℕ) → colour f ≡ Grey → IsKeptFragment owner f) → (f : ℕ) → shaded f ≡ Grey → IsKeptFragment owner f
+  grey_is_kept_fragment kept_fragments f grey = elim (grey_was f grey) as (λ _. IsKeptFragment owner f) [
+    | inl was ↦ kept_fragments f was
+    | inr new ↦ subst (IsKeptFragment owner) (sym new.0) kept
   ]
 
   scan_shaded : (stage : Stage) → ScanStands heap words owner colour fragments stage → ScanStands heap now owner shaded fragments stage
@@ -115,12 +115,12 @@ module _ (heap : Heap) (words now : List ℕ) (owner : ℕ → Owner) (colour : 
       | inr new ↦ was_marked (subst (λ x. colour x ≡ White) new.0 new.1)
     ];
     white_dead = λ f white. after.white_dead f record { unmarked = still f white.unmarked; born = white.born };
-    dead_white = λ f i k dead. mark_keeps_other_colour colour m f (λ same. let both : Kept kept.index kept.place ≡ Dead i k = sym kept.kept ∙ ap owner (sym same) ∙ dead in absurd (cc)) ∙ after.dead_white f i k dead;
+    dead_white = λ f i k dead. mark_keeps_other_colour colour m f (λ same. let both : Kept kept.index kept.position ≡ Dead i k = sym kept.kept ∙ ap owner (sym same) ∙ dead in absurd (cc)) ∙ after.dead_white f i k dead;
   }
     where
       was_marked : IsMarked colour m
       was_marked white = let dead = after.white_dead m record { unmarked = white; born = ap born_bit kept.kept } in
-          let both : Kept kept.index kept.place ≡ Dead dead.0 dead.1 = sym kept.kept ∙ dead.2 in absurd (cc)
+          let both : Kept kept.index kept.position ≡ Dead dead.0 dead.1 = sym kept.kept ∙ dead.2 in absurd (cc)
 
       still : (f : ℕ) → shaded f ≡ White → colour f ≡ White
       still f white = elim (white_or_marked colour f) as (λ _. colour f ≡ White) [
@@ -131,7 +131,7 @@ module _ (heap : Heap) (words now : List ℕ) (owner : ℕ → Owner) (colour : 
   -- of a sweep nothing changes
   sweep_shaded : (phase : ℕ) (stage : Stage) → OnlyClears ⊥ stage → SweepStands heap owner colour phase stage → SweepStands heap owner shaded phase stage
   sweep_shaded phase (stages.Sweeping group) unclear stands = stands
-  sweep_shaded phase (stages.Examining group dead place counted) unclear stands = stands
+  sweep_shaded phase (stages.Examining group dead position counted) unclear stands = stands
   sweep_shaded phase (stages.Freeing group dead counted) unclear stands = stands
   sweep_shaded phase (stages.Returning group counted) unclear stands = stands
   sweep_shaded phase (stages.Clearing group kept) unclear stands = absurd unclear
@@ -143,7 +143,7 @@ module _ (heap : Heap) (words now : List ℕ) (owner : ℕ → Owner) (colour : 
   pub marking_stands_after_shade : (phase : ℕ) (stage : Stage) → OnlyClears ⊥ stage → ((group : ℕ) → stage ≡ stages.Passing group false → IsReached heap words owner colour m)
       → MarkingStands heap words owner colour fragments phase stage → MarkingStands heap now owner shaded fragments phase stage
   marking_stands_after_shade phase stage unclear comes stands = record {
-    grey = grey_is_part stands.grey;
+    grey = grey_is_kept_fragment stands.grey;
     scan = scan_shaded stage stands.scan;
     few = stands.few;
     pass = pass_shaded stage comes stands.pass;

@@ -4,7 +4,7 @@ use Rattle.std.proofs.lemmas.Bool.{cases_eq}
 use Rattle.core_rule.proofs.Terms.{cycle_phases, Heap, Value, phase, Swapping, State, seat_at, Seat, Book, object_head, IsMarked, IsBetween, WordPointsTo, DeletionBarrier}
 use Rattle.core_rule.proofs.Terms.{FieldStands, WhileAccess, NamesKept, value_word, HoldsValue, Rule}
 use Rattle.heap_model.specs.PhasePlan.{marking as marking_phase}
-use Rattle.core_machine.specs.declared.place.Place.TheVariants as places
+use Rattle.core_machine.specs.declared.point.Point.TheVariants as points
 use Rattle.core_machine.specs.seat.AccessMoves.{new_register_of}
 use Rattle.core_rule.proofs.ways.AtObject.{answer_is_near_phase}
 use Rattle.core_rule.proofs.colours.LeadsFrames.{leads_now_or_is_written, same_sources_beside}
@@ -13,7 +13,7 @@ use Rattle.core_rule.proofs.cycle.SwapCycle.{swap_part_is_small, swap_within_hea
 use Rattle.core_rule.proofs.marking.Marks.{Leaves, leaves_by_same_sources}
 
 module _ (heap : Heap) (state : State) (book : Book) (number : ℕ) (rule : Rule heap state book) (here : number < heap.seats)
-    (place : (seat_at state number).place ≡ places.Access Swapping) where
+    (point : (seat_at state number).point ≡ points.Access Swapping) where
   abbrev seat : Seat
   seat = seat_at state number
 
@@ -22,12 +22,12 @@ module _ (heap : Heap) (state : State) (book : Book) (number : ℕ) (rule : Rule
   taken_marked marking g leads =
       let same : state.collector.phase ≡ phase book.history = rule.collector_stands.phase_told in
       let making : IsBetween 2 5 (phase book.history) = record { from = omega (arith, same, marking); upto = omega (arith, same, marking) } in
-      let snapped : IsBetween 2 5 seat.answered = elim (answer_is_near_phase heap state book number rule here Swapping place) as (λ _. IsBetween 2 5 seat.answered) [
+      let snapped : IsBetween 2 5 seat.answered = elim (answer_is_near_phase heap state book number rule here Swapping point) as (λ _. IsBetween 2 5 seat.answered) [
         | inl now ↦ record { from = omega (arith, same, marking, now); upto = omega (arith, same, marking, now) }
         | inr before ↦ record { from = omega (arith, same, marking, before); upto = omega (arith, same, marking, before) }
       ] in
       let watched : DeletionBarrier heap state.words book.colour seat.reached seat.part None
-      = subst (λ x. WhileAccess (FieldStands heap state.words book.colour seat) x) place ((rule.seats_stand number here).cycle.flight.set making snapped) in
+      = subst (λ x. WhileAccess (FieldStands heap state.words book.colour seat) x) point ((rule.seats_stand number here).cycle.flight.set making snapped) in
       elim (watched g leads) as (λ _. IsMarked book.colour g) [
         | inl none ↦ cc
         | inr marked ↦ marked
@@ -36,13 +36,13 @@ module _ (heap : Heap) (state : State) (book : Book) (number : ℕ) (rule : Rule
   module _ (value : Value) (stamp : ℕ) (holds : HoldsValue book.made book.owner book.fragments (new_register_of (seat_at state number)) value)
       (names : NamesKept book.made book.owner book.fragments value) (small : stamp < 2 ^ 32) (word : ℕ) (is_word : word ≡ value_word (object_head book.made book.fragments) value stamp) where
     abbrev now : List ℕ
-    now = words_swapped heap state book number rule here place value stamp holds names small word is_word
+    now = words_swapped heap state book number rule here point value stamp holds names small word is_word
 
     -- each other source leads where it led
     leads_later : state.collector.phase % cycle_phases ≡ marking_phase → (f source g : ℕ) → WordPointsTo heap state.words f source g → WordPointsTo heap now f source g ⊎ IsMarked book.colour g
     leads_later marking f source g leads =
-        elim (leads_now_or_is_written heap state.words seat.reached seat.part word (swap_within_heap heap state book number rule here) (swap_part_is_small heap state book number rule here place)
-        (swap_tells_no_spine heap state book number rule here place) (swapped_tells_no_spine heap state book number rule here place value stamp holds names small word is_word) f source g leads)
+        elim (leads_now_or_is_written heap state.words seat.reached seat.part word (swap_within_heap heap state book number rule here) (swap_part_is_small heap state book number rule here point)
+        (swap_tells_no_spine heap state book number rule here point) (swapped_tells_no_spine heap state book number rule here point value stamp holds names small word is_word) f source g leads)
         as (λ _. WordPointsTo heap now f source g ⊎ IsMarked book.colour g) [
           | inl still ↦ inl still
           | inr there ↦ inr (taken_marked marking g (subst (λ p. WordPointsTo heap state.words seat.reached p g) there.1 (subst (λ x. WordPointsTo heap state.words x source g) there.0 leads)))
@@ -60,13 +60,13 @@ module _ (heap : Heap) (state : State) (book : Book) (number : ℕ) (rule : Rule
           fresh = before.fresh;
           dark = before.dark;
           light = before.light;
-          back = λ marking f source g born leads. let third = marking.phase in leads_stay_after_swap heap state book number rule here place value stamp holds names small word is_word
+          back = λ marking f source g born leads. let third = marking.phase in leads_stay_after_swap heap state book number rule here point value stamp holds names small word is_word
               record { from = omega (arith, same, third); upto = omega (arith, same, third) } f source g born leads;
           on = λ marking f source g born leads. leads_later marking.phase f source g leads;
           spine = λ marking f born. elim (cases_eq f seat.reached) as (λ _. SpineStays heap state.words now f) [
-            | inl same ↦ subst (SpineStays heap state.words now) (sym same) (spine_stays_where_none heap state.words now seat.reached (swap_tells_no_spine heap state book number rule here place)
-                (swapped_tells_no_spine heap state book number rule here place value stamp holds names small word is_word))
+            | inl same ↦ subst (SpineStays heap state.words now) (sym same) (spine_stays_where_none heap state.words now seat.reached (swap_tells_no_spine heap state book number rule here point)
+                (swapped_tells_no_spine heap state book number rule here point value stamp holds names small word is_word))
             | inr apart ↦ spine_stays_where_same heap state.words now f (same_sources_beside heap state.words seat.reached seat.part word (swap_within_heap heap state book number rule here)
-                (swap_part_is_small heap state book number rule here place) f apart)
+                (swap_part_is_small heap state book number rule here point) f apart)
           ];
         }

@@ -11,7 +11,7 @@ use Rattle.core_rule.proofs.owners.DeadOwners.{are_freed_where_none_set}
 -- the stage is none of the sweep and none of the clearing
 abbrev pub IsUnswept : Stage → Type 0
 IsUnswept (stages.Sweeping group) = ⊥
-IsUnswept (stages.Examining group dead place counted) = ⊥
+IsUnswept (stages.Examining group dead position counted) = ⊥
 IsUnswept (stages.Freeing group dead counted) = ⊥
 IsUnswept (stages.Returning group counted) = ⊥
 IsUnswept (stages.Clearing group kept) = ⊥
@@ -21,7 +21,7 @@ IsUnswept _ = Unit {0}
 -- there nothing is asked of what is freed, in a phase that isn't that of the sweep
 pub sweep_stands_unswept : (heap : Heap) (owner : ℕ → Owner) (colour : ℕ → Colour) (phase : ℕ) (stage : Stage) → IsUnswept stage → phase % cycle_phases ≢ sweep_phase → SweepStands heap owner colour phase stage
 sweep_stands_unswept heap owner colour phase (stages.Sweeping group) unswept other = absurd unswept
-sweep_stands_unswept heap owner colour phase (stages.Examining group dead place counted) unswept other = absurd unswept
+sweep_stands_unswept heap owner colour phase (stages.Examining group dead position counted) unswept other = absurd unswept
 sweep_stands_unswept heap owner colour phase (stages.Freeing group dead counted) unswept other = absurd unswept
 sweep_stands_unswept heap owner colour phase (stages.Returning group counted) unswept other = absurd unswept
 sweep_stands_unswept heap owner colour phase (stages.Clearing group kept) unswept other = absurd unswept
@@ -82,6 +82,6 @@ module _ (heap : Heap) (words : List ℕ) (owner : ℕ → Owner) (colour : ℕ 
       | inr some ↦ rw some.0 (swept_at (stages.Freeing group dead counted) tt tt tt (freed, are))
     ]
 
-    pub marking_stands_after_examined : (counted : ℕ) (place : Option ℕ) → MarkingStands heap words owner colour fragments phase (after_examined heap group dead counted place)
-    marking_stands_after_examined counted (Some place) = swept_at (stages.Examining group dead place counted) tt tt tt (freed, are)
+    pub marking_stands_after_examined : (counted : ℕ) (position : Option ℕ) → MarkingStands heap words owner colour fragments phase (after_examined heap group dead counted position)
+    marking_stands_after_examined counted (Some position) = swept_at (stages.Examining group dead position counted) tt tt tt (freed, are)
     marking_stands_after_examined counted None = examined_all counted

@@ -7,7 +7,7 @@ use Rattle.core_rule.proofs.owners.Handed.{none_or_some}
 use Rattle.core_rule.proofs.owners.OwnerLemmas.{IsOwn, own_is_not_boards}
 
 module _ (seats : ℕ) (owner : ℕ → Owner) (owners : OwnersStand seats owner) where
-  -- a fragment that is part k of object number i is 0 where both are
+  -- a fragment that is number k of object number i is 0 where both are
   pub board_alone : (f i k : ℕ) → owner f ≡ Kept i k → f ≡ 0 → (i ≡ 0) × (k ≡ 0)
   board_alone f i k is first = subst IsBoards (sym (ap owner first) ∙ is) owners.board
 

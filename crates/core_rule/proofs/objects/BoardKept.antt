@@ -16,7 +16,7 @@ holds_kept made owner fragments (registers.Object head id) holds = let same : va
     subst (λ x. NamesKept made owner fragments (values.Object x)) it holds.1
 
 pub board_is_kept : (heap : Heap) (state : State) (book : Book) (number : ℕ) (rule : Rule heap state book) (here : number < heap.seats)
-    → (graph_seat (graph_of heap book.history) number).left ≡ false → ¬ IsAwaited (seat_at state number).place (target_of (seat_at state number).command) 0
+    → (graph_seat (graph_of heap book.history) number).left ≡ false → ¬ IsAwaited (seat_at state number).point (target_of (seat_at state number).command) 0
     → book.owner 0 ≡ Kept 0 0
 board_is_kept heap state book number rule here present awake =
     let stands = rule.heap_stands in

@@ -9,7 +9,7 @@ use Rattle.heap_model.specs.declared.id.Value.TheVariants as values
 use Rattle.core_rule.proofs.graph.IdsGrowth.{OneMore, made_nodes_stay}
 use Rattle.core_rule.proofs.graph.SameNodes.{same_shape_of_equal}
 use Rattle.core_rule.proofs.objects.ObjectWords.{object_words_same_by_cells}
-use Rattle.core_rule.proofs.owners.Keeping.{kept_by, with_object, old_object_keeps_fragments, new_object_has_body, kept_by_others_stays, kept_by_others_was, body_fragment_is_kept_part}
+use Rattle.core_rule.proofs.owners.Keeping.{kept_by, with_object, old_object_keeps_fragments, new_object_has_body, kept_by_others_stays, kept_by_others_was, body_fragment_is_kept_at_position}
 use Rattle.core_rule.proofs.graph.Numbering.{id_stays_by_append, number_stays_by_append}
 use Rattle.core_rule.proofs.entries.SeatLists.{NamesStay}
 use Rattle.core_rule.proofs.ways.WayFrames.{ObjectStays}
@@ -36,7 +36,7 @@ module _ (made : List Id) (id : Id) (owner : ℕ → Owner) (fragments : ℕ →
 
   pub new_object_is_kept : ((f : ℕ) → tally f body ≤ 1) → 1 ≤ length body → IsKept now_owner now_fragments (length made)
   new_object_is_kept once some = subst (λ fs. now_owner (fragment_at fs 0) ≡ Kept (length made) 0) (sym (new_object_has_body fragments (length made) body))
-      (body_fragment_is_kept_part (length made) body owner once 0 (omega arith))
+      (body_fragment_is_kept_at_position (length made) body owner once 0 (omega arith))
 
   -- so names of kept objects name kept ones, by the same first fragments
   pub names_kept_after_growth : (value : Value) → NamesKept made owner fragments value → NamesKept (made ++ id ∷ []) now_owner now_fragments value

@@ -41,7 +41,7 @@ objects_after_store heap words g made owner fragments spines f part n inside wit
     (λ x i k p is number. other_fragment_word_stays heap words n f part x p within number (λ e. free i k (subst (λ y. owner y ≡ Kept i k) e is)))
     (λ i j less is there. same_spines_after_word heap words n f part inside within _ _) old
 
--- the same fragments are kept, as the same parts of the same objects
+-- the same fragments are kept, at the same positions of the same objects
 pub record SameKept (owner now : ℕ → Owner) : Type 0 where
   pub stays : (f i k : ℕ) → owner f ≡ Kept i k → now f ≡ Kept i k
   pub was : (f i k : ℕ) → now f ≡ Kept i k → owner f ≡ Kept i k
@@ -65,8 +65,8 @@ pub free_is_not_kept : (i k : ℕ) → Free ≢ Kept i k
 free_is_not_kept i k e = cc
 
 -- so where fragments that a seat holds do, the same are kept
-pub same_kept_after_part_handed : (owner : ℕ → Owner) (number : ℕ) (fs : List ℕ) (o : Owner) → ((i k : ℕ) → o ≢ Kept i k) → ((f : ℕ) → 1 ≤ tally f fs → owner f ≡ Taken number) → SameKept owner (owner_after o owner fs)
-same_kept_after_part_handed owner number fs o none held = same_kept_after_handing o owner fs none (λ f i k there is. taken_is_not_kept number i k (sym (held f there) ∙ is))
+pub same_kept_after_taken_handed : (owner : ℕ → Owner) (number : ℕ) (fs : List ℕ) (o : Owner) → ((i k : ℕ) → o ≢ Kept i k) → ((f : ℕ) → 1 ≤ tally f fs → owner f ≡ Taken number) → SameKept owner (owner_after o owner fs)
+same_kept_after_taken_handed owner number fs o none held = same_kept_after_handing o owner fs none (λ f i k there is. taken_is_not_kept number i k (sym (held f there) ∙ is))
 
 module _ (owner now : ℕ → Owner) (same : SameKept owner now) (made : List Id) (fragments : ℕ → List ℕ) where
   pub names_kept_by_same_kept : (value : Value) → NamesKept made owner fragments value → NamesKept made now fragments value

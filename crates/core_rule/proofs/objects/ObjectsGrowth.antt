@@ -9,7 +9,7 @@ use Rattle.core_rule.proofs.Terms.{Board, Heap, Id, record_fragments, array_frag
 use Rattle.core_rule.proofs.Terms.{fragment_at, id_at, object_head, AreMade, IsKept, IsSized, NamesKept, KeptObject, Objects, node_in, node_at, cells_at, name_of, Owner, Kept}
 use Rattle.heap_model.specs.declared.graph.cell.Cell.{Cell}
 use Rattle.core_rule.proofs.graph.IdsGrowth.{OneMore, old_or_new_cases, made_nodes_stay}
-use Rattle.core_rule.proofs.owners.Keeping.{kept_by, with_object, new_object_has_body, old_object_keeps_fragments, kept_by_others_stays, body_fragment_is_kept_part, kept_is_body_or_before}
+use Rattle.core_rule.proofs.owners.Keeping.{kept_by, with_object, new_object_has_body, old_object_keeps_fragments, kept_by_others_stays, body_fragment_is_kept_at_position, kept_is_body_or_before}
 use Rattle.core_rule.proofs.objects.NamesGrowth.{old_number_is_not_new, old_kept_stays_kept, old_kept_was_kept, new_object_is_kept, names_kept_after_growth, old_words_stay_after_growth}
 use Rattle.core_rule.proofs.objects.Newborn.{fresh_word, object_word_is_fresh}
 use Rattle.core_rule.proofs.graph.Numbering.{id_stays_by_append, new_id_stands_last}
@@ -107,7 +107,7 @@ module _ (heap : Heap) (words : List ℕ) (g now : Graph) (made : List Id) (id :
       record {
         sized = subst (IsSized array) (sym long) new.sized;
         whole = new.whole ∙ ap (fresh_fragments array) (sym long);
-        owned = body_fragment_is_kept_part (length made) body owner new.once;
+        owned = body_fragment_is_kept_at_position (length made) body owner new.once;
         stored = λ k part p number. new.newborn k part p number ∙ sym (object_word_is_fresh (object_head now_made now_fragments) (name_of id) array cells spine body k part);
         listed = λ j p. new.listed j (subst (λ n. j < fresh_words array n) long p);
       }

@@ -58,8 +58,8 @@ module _ (owner : ℕ → Owner) (group bits : ℕ) (small : bits < 2 ^ 16) (are
   -- a fragment of the group has its bit
   pub dead_has_its_bit : (f : ℕ) → f / 16 ≡ group → bit_at bits (taken_at f) ≡ dead_bit (owner f)
   dead_has_its_bit f here =
-      let place : 16 * group + f % 16 ≡ f = omega (arith, here) in
-      subst (λ x. bit_at bits (taken_at f) ≡ dead_bit (owner x)) place (are (f % 16) (omega arith))
+      let position : 16 * group + f % 16 ≡ f = omega (arith, here) in
+      subst (λ x. bit_at bits (taken_at f) ≡ dead_bit (owner x)) position (are (f % 16) (omega arith))
 
   -- those whose bits are set are to be freed
   pub set_bits_are_dead : (f : ℕ) → 1 ≤ tally f (set_in group bits) → dead_bit (owner f) ≡ 1

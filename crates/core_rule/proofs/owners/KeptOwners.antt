@@ -1,14 +1,14 @@
 -- Whose the fragments are once a seat's object keeps its own.
 use Rattle.std.specs.List.{list_all}
 use Rattle.std.proofs.Common.{◌≡◌, ◌≢◌, ℕ, ◌+◌, ◌≤◌, List, [], length, refl, sym, ap, arith, ◌<◌, Bool, true, bit_or, ◌∙◌}
-use Rattle.core_rule.proofs.Terms.{Heap, Control, tally, in_group, part_in, mask_of, at, put, table_length, birth_bits_of, Bits, Holding, Owner, Free, taken_bit, free_bit}
+use Rattle.core_rule.proofs.Terms.{Heap, Control, tally, in_group, inside_group, mask_of, at, put, table_length, birth_bits_of, Bits, Holding, Owner, Free, taken_bit, free_bit}
 use Rattle.core_rule.proofs.Terms.{born_bit, holds_bit, bears_bit}
 use Rattle.core_rule.proofs.hand.Bodies.{body_tally_is_hand_and_borne, body_has_each_once, body_is_own}
 use Rattle.core_rule.proofs.words.ControlSteps.{bits_after_born_word}
 use Rattle.core_rule.proofs.hand.HandMoves.{SameHand, hand_has_each_once, hand_fragment_is_taken}
 use Rattle.core_rule.proofs.owners.Keeping.{kept_by, kept_by_cases}
 use Rattle.core_rule.proofs.owners.OwnerLemmas.{own_bits_within_one, own_is_taken, own_is_not_free, own_born_is_borne, own_is_not_others}
-use Rattle.core_rule.proofs.lists.Parts.{filter_keeps_all}
+use Rattle.core_rule.proofs.lists.GroupLists.{filter_keeps_all}
 
 module _ (owner : ℕ → Owner) (number : ℕ) (reserve hand body : List ℕ) (holding : Holding owner number reserve hand body) (some : 1 ≤ length body) where
   module _ (n : ℕ) where
@@ -55,7 +55,7 @@ module _ (owner : ℕ → Owner) (number : ℕ) (reserve hand body : List ℕ) (
 -- the control word has the bits of the new owners, where all of the hand is of its group
 pub bits_when_kept : (heap : Heap) (words : List ℕ) (owner : ℕ → Owner) (number : ℕ) (reserve hand body : List ℕ) (g n : ℕ) (black : Bool)
     → length words ≡ table_length heap → g < heap.groups → Bits heap words owner → Holding owner number reserve hand body → 1 ≤ length body → list_all (in_group g) hand ≡ true
-    → Bits heap (put heap words (Control g) (bit_or (at heap words (Control g)) (birth_bits_of black (mask_of (part_in g hand))))) (kept_by n body owner)
+    → Bits heap (put heap words (Control g) (bit_or (at heap words (Control g)) (birth_bits_of black (mask_of (inside_group g hand))))) (kept_by n body owner)
 bits_when_kept heap words owner number reserve hand body g n black whole below bits holding some all =
     bits_after_born_word heap words owner g whole below bits hand number (hand_has_each_once owner number reserve hand body holding) (hand_fragment_is_taken owner number reserve hand body holding) black (kept_by n body owner)
     (taken_bit_same_when_kept owner number reserve hand body holding some n)

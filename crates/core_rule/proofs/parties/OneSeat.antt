@@ -38,7 +38,7 @@ call_same heap number steps command state =
 -- so who is alone stays so
 alone_still : (number : ℕ) (old new : State) → SameBut number old new → IsAlone old number → IsAlone new number
 alone_still number old new same alone =
-    λ other below apart. ap (λ s. s.place) (same.others other apart) ∙ alone other (omega (arith, below, same.seats)) apart
+    λ other below apart. ap (λ s. s.point) (same.others other apart) ∙ alone other (omega (arith, below, same.seats)) apart
 
 steps_alone : (heap : Heap) (number steps : ℕ) (state : State) → IsAlone state number → OneCallAtATime heap state (replicate steps (Steps number))
 steps_alone heap number zero state alone = tt

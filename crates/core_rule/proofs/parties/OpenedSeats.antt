@@ -2,7 +2,7 @@
 use Rattle.std.proofs.Common.{◌≡◌, ℕ, ◌<◌, List, length, refl, sym, ap, subst, ◌∙◌, arith}
 use Rattle.std.proofs.lemmas.List.FromFn.{length-map-range_with_len, get_or-map-range_with_len}
 use Rattle.core_rule.proofs.Terms.{Heap, State, seat_at, Seat, absent_seat, AllIdle}
-use Rattle.core_machine.specs.declared.place.Place.TheVariants.{Idle}
+use Rattle.core_machine.specs.declared.point.Point.TheVariants.{Idle}
 use Rattle.core_machine.specs.machine.Opening.{IsOpening, opening_seat}
 
 -- each of its seats is as at the opening
@@ -18,4 +18,4 @@ seats_opened heap state opens = ap (length {A = Seat}) opens.seats_open ∙ leng
 -- none has a call in flight
 pub opened_is_all_idle : (heap : Heap) (state : State) → IsOpening heap state → AllIdle state
 opened_is_all_idle heap state opens number below =
-    holds_of_opened_seats heap state opens (λ (t : Seat). t.place ≡ Idle) number (omega (arith, below, seats_opened heap state opens)) refl
+    holds_of_opened_seats heap state opens (λ (t : Seat). t.point ≡ Idle) number (omega (arith, below, seats_opened heap state opens)) refl

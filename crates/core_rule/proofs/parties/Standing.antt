@@ -1,11 +1,11 @@
 -- What the rule says of a machine whose seat has no call in flight, by the entries so far.
 use Rattle.std.proofs.Common.{◌≡◌, ℕ, ◌+◌, ◌<◌, ◌≤◌, false, List, [], length, refl, sym, ap, subst, ◌∙◌, arith}
 use Rattle.core_rule.proofs.Terms.{Heap, Command, Entry, graph_of, phase, last_answer, has_left, fragments_gained, fragments_lost, taken_of, spent_of, words_granted}
-use Rattle.core_rule.proofs.Terms.{words_returned, graph_seat, Budget, State, seat_at, IsAtRest, FitsPlace, Seat, HasNumberLeft, at, StandsFor, AllIdle, WordsAreUsed}
+use Rattle.core_rule.proofs.Terms.{words_returned, graph_seat, Budget, State, seat_at, IsAtRest, FitsPoint, Seat, HasNumberLeft, at, StandsFor, AllIdle, WordsAreUsed}
 use Rattle.core_rule.proofs.Terms.{fragments_in_hand, answer_word}
 use Rattle.heap_model.specs.declared.command.Command.TheVariants as commands
 use Rattle.heap_model.specs.calls.SeatCalls.{HasNumber}
-use Rattle.core_machine.specs.declared.place.Place.TheVariants.{Idle}
+use Rattle.core_machine.specs.declared.point.Point.TheVariants.{Idle}
 use Rattle.core_machine.specs.declared.table.address.Address.TheVariants.{Phase, Answer}
 use Rattle.core_machine.specs.machine.Calls.{IsPhaseNear}
 use Rattle.core_rule.proofs.told.NearPhases.{phase_word_is_near_answer}
@@ -27,14 +27,14 @@ module _ (heap : Heap) (state : State) (told : List Entry) (s : StandsFor heap s
   pub seated : length state.seats ≡ heap.seats
   seated = s.stands.rule.machine.seated
 
-  module _ (number : ℕ) (below : number < heap.seats) (idle : (seat_at state number).place ≡ Idle) where
+  module _ (number : ℕ) (below : number < heap.seats) (idle : (seat_at state number).point ≡ Idle) where
     abbrev seat : Seat
     seat = seat_at state number
 
     -- what it has of its own is its reserve
     pub reserve_is_taken_unspent : spent_of number told + length seat.reserve ≡ taken_of number told
     reserve_is_taken_unspent =
-        let rest : IsAtRest seat = subst (FitsPlace heap seat) idle (s.stands.rule.machine.fit number (rw seated below)).at_place in
+        let rest : IsAtRest seat = subst (FitsPoint heap seat) idle (s.stands.rule.machine.fit number (rw seated below)).at_point in
         let unborn = (s.stands.rule.seats_stand number below).told.counts.unborn in
         let none : length (fragments_in_hand seat.hand seat.body) ≡ 0 = rw (rest.no_body, rest.empty_hand) refl in
         subst (λ es. spent_of number es + length seat.reserve ≡ taken_of number es) s.grown (omega (arith, unborn, none))

@@ -11,15 +11,15 @@ pub record AreAll (P : Id → Type 0) (ids : List Id) : Type 0 where
   pub all : (id : Id) → Contains ids id ↔ P id
 
 module _ (g : Graph) (P : Id → Type 0) (decided : (id : Id) → P id ⊎ ¬ P id) (made : (id : Id) → P id → IsMade g id) where
-  -- the list has those before a place, in their order
-  record IsListedBelow (place : Id) (ids : List Id) : Type 0 where
+  -- the list has those before a position, in their order
+  record IsListedBelow (position : Id) (ids : List Id) : Type 0 where
     pub ordered : AllPairs IsBefore ids
-    pub listed : (id : Id) → Contains ids id → P id × IsBefore id place
-    pub whole : (id : Id) → P id → IsBefore id place → Contains ids id
+    pub listed : (id : Id) → Contains ids id → P id × IsBefore id position
+    pub whole : (id : Id) → P id → IsBefore id position → Contains ids id
 
   -- there is such a list
   abbrev Listed : Id → Type 0
-  Listed place = (ids : List Id) × IsListedBelow place ids
+  Listed position = (ids : List Id) × IsListedBelow position ids
 
   -- the list goes on by an object of which P holds
   module _ (s c : ℕ) (ids : List Id) (list : IsListedBelow (Made s c) ids) where

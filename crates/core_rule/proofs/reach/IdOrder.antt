@@ -1,4 +1,4 @@
--- Which ids are before a place in the order of the ids: before the next object's, the next seat's, and past the last.
+-- Which ids are before a position in the order of the ids: before the next object's, the next seat's, and past the last.
 use Rattle.std.proofs.Common.{◌≡◌, ℕ, suc, ◌<◌, ◌≤◌, ◌⊎◌, inl, inr, length, Option, IsSome, sym, ap, ◌∙◌, subst, arith}
 use Rattle.std.proofs.lemmas.Bool.{cases_lt, false≢true}
 use Rattle.std.proofs.lemmas.List.{get_or_past}
@@ -6,7 +6,7 @@ use Rattle.std.proofs.lemmas.Option.{slice_get_past}
 use Rattle.core_rule.proofs.Terms.{Id, Board, Made, Graph, Node, graph_seat, absent_graph_seat, IsMade, IsBefore}
 use Rattle.heap_model.specs.graph.Graph.{GraphSeat}
 
--- before the place after a seat's object is that object, and what is before it
+-- before the position after a seat's object is that object, and what is before it
 pub before_next_or_same : (id : Id) (s c : ℕ) → IsBefore id (Made s (suc c)) → IsBefore id (Made s c) ⊎ (Made s c ≡ id)
 before_next_or_same Board s c before = inl tt
 before_next_or_same (Made t k) s c before = elim before [

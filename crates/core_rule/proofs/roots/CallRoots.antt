@@ -4,8 +4,8 @@ use Rattle.core_rule.proofs.Terms.{Command, Heap, spine_words_of, Word, Register
 use Rattle.core_rule.proofs.Terms.{is_meta, at, State, seat_at, call_start, Book, fragment_at, WhileAccess, IsKept, node_at, born_bit, IsReached, Rule, Finds}
 use Rattle.heap_model.specs.declared.command.Command.TheVariants as commands
 use Rattle.heap_model.specs.Command.{IsCommand}
-use Rattle.core_machine.specs.declared.place.Access.{Access}
-use Rattle.core_machine.specs.declared.place.Place.TheVariants as places
+use Rattle.core_machine.specs.declared.point.Access.{Access}
+use Rattle.core_machine.specs.declared.point.Point.TheVariants as points
 use Rattle.core_machine.specs.declared.seat.register.Register.TheVariants as registers
 use Rattle.core_machine.specs.seat.Local.{local_registers}
 use Rattle.core_rule.specs.roots.Roots.{IsInMarking, AtCall, OfRoots}
@@ -22,16 +22,16 @@ use Rattle.core_rule.proofs.graph.ToldGraph.{told_graph}
 
 module _ (P : ℕ → Type 0) where
   -- what holds of the roots of a call holds of what it has reached and loaded
-  pub roots_hold_at_call : (seat : Seat) (place : Access) → seat.place ≡ places.Access place → OfRoots P seat → AtCall P seat place
-  roots_hold_at_call seat place placed roots = subst (WhileAccess (AtCall P seat)) placed roots.call
+  pub roots_hold_at_call : (seat : Seat) (point : Access) → seat.point ≡ points.Access point → OfRoots P seat → AtCall P seat point
+  roots_hold_at_call seat point point_is roots = subst (WhileAccess (AtCall P seat)) point_is roots.call
 
   -- the call goes on with the registers that it had
-  pub roots_hold_on_way : (seat next : Seat) (place : Access) → next.registers ≡ seat.registers → next.place ≡ places.Access place → AtCall P next place → OfRoots P seat → OfRoots P next
-  roots_hold_on_way seat next place same placed call roots = record { registers = rw same roots.registers; call = subst (WhileAccess (AtCall P next)) (sym placed) call }
+  pub roots_hold_on_way : (seat next : Seat) (point : Access) → next.registers ≡ seat.registers → next.point ≡ points.Access point → AtCall P next point → OfRoots P seat → OfRoots P next
+  roots_hold_on_way seat next point same point_is call roots = record { registers = rw same roots.registers; call = subst (WhileAccess (AtCall P next)) (sym point_is) call }
 
   -- it is over: its registers' objects are all its roots
-  pub roots_hold_when_over : (next : Seat) → IsOffWay next.place → OfHeads P next.registers → OfRoots P next
-  roots_hold_when_over next off heads = roots_hold_off_way P (record next { place = places.Idle }) next refl off record { registers = heads; call = tt }
+  pub roots_hold_when_over : (next : Seat) → IsOffWay next.point → OfHeads P next.registers → OfRoots P next
+  roots_hold_when_over next off heads = roots_hold_off_way P (record next { point = points.Idle }) next refl off record { registers = heads; call = tt }
 
   -- a call that looks at no word puts no other object into a register
   pub local_heads_hold : (held : List Register) → length held ≡ 16 → OfHeads P held → (command : Command) → IsCommand command → IsLocal held command → OfHeads P (local_registers held command)

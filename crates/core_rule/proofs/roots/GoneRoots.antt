@@ -2,7 +2,7 @@
 use Rattle.std.proofs.Common.{◌≡◌, ℕ, ◌<◌, true, IfSome, ◌∙◌, subst}
 use Rattle.core_rule.proofs.Terms.{Heap, graph_of, register_value, Register, State, seat_at, register_in, register_head, Book, HoldsValue, Rule}
 use Rattle.heap_model.specs.declared.id.Value.TheVariants as values
-use Rattle.core_machine.specs.declared.place.Place.TheVariants as places
+use Rattle.core_machine.specs.declared.point.Point.TheVariants as points
 use Rattle.core_machine.specs.declared.seat.register.Register.TheVariants as registers
 use Rattle.core_rule.specs.roots.Roots.{OfRoots}
 use Rattle.core_rule.proofs.entries.AtRest.{seat_fits}
@@ -12,7 +12,7 @@ pub roots_hold_when_gone : (heap : Heap) (state : State) (book : Book) (number :
     → (P : ℕ → Type 0) → OfRoots P (seat_at state number)
 roots_hold_when_gone heap state book number rule here left P =
     let stands = rule.seats_stand number here in
-    let idle : (seat_at state number).place ≡ places.Idle = ((seat_fits rule number here).gone left).idle in
+    let idle : (seat_at state number).point ≡ points.Idle = ((seat_fits rule number here).gone left).idle in
     let empty : (r : ℕ) → register_value (graph_of heap book.history) number r ≡ values.Nil
     = left_registers_are_nil heap book.history number rule.heap_stands.legal.objects (stands.told.counts.leaves ∙ left) in
     record {

@@ -2,9 +2,9 @@
 use Rattle.std.proofs.Common.{◌≡◌, ℕ, zero, suc, ◌+◌, ◌%◌, ◌<◌, ◌≤◌, nat_lt, List, [], ◌∷◌, length, get_or, slice_index_or, Option, Some, None, IfSome, inl, inr, refl, sym, ap, ◌∙◌, subst, arith}
 use Rattle.std.proofs.lemmas.Bool.{cond_both, cases_lt, eq-eqb, ltb-false}
 use Rattle.core_rule.proofs.Terms.{cycle_phases, marking, Register, register_in, register_head, heads_of, Seat, Colour, IsMarked, IsRootMarked, RootsStand, objects_before}
-use Rattle.core_machine.specs.declared.place.Polling.TheVariants.{Shading, Answering}
+use Rattle.core_machine.specs.declared.point.Polling.TheVariants.{Shading, Answering}
 use Rattle.core_machine.specs.declared.seat.register.Register.TheVariants as registers
-use Rattle.core_machine.specs.seat.Handshake.{roots, answer_place}
+use Rattle.core_machine.specs.seat.Handshake.{roots, answer_point}
 use Rattle.core_rule.proofs.colours.ShadeColours.{with_mark, mark_marks_fragment, mark_keeps_marked}
 use Rattle.core_rule.proofs.lists.Options.{if_some_goes_on}
 
@@ -53,7 +53,7 @@ pub roots_are_register_heads : (seat : Seat) → seat.asked % cycle_phases ≡ m
 roots_are_register_heads seat begins = rw (eq-eqb (seat.asked % cycle_phases) marking begins) refl
 
 -- so whoever answers then has marked each of them
-pub roots_stand_at_answer : (colour : ℕ → Colour) (seat : Seat) → seat.asked % cycle_phases ≡ marking → FrontMarked colour seat.registers seat.shaded → RootsStand colour seat (answer_place seat)
+pub roots_stand_at_answer : (colour : ℕ → Colour) (seat : Seat) → seat.asked % cycle_phases ≡ marking → FrontMarked colour seat.registers seat.shaded → RootsStand colour seat (answer_point seat)
 roots_stand_at_answer colour seat begins front =
     cond_both (nat_lt seat.shaded (length (roots seat))) Shading Answering (RootsStand colour seat)
     (λ more. front)

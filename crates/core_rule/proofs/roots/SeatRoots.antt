@@ -1,9 +1,9 @@
 -- Where nothing is grey, each seat's roots are marked: those of a seat that has answered the phase, and one that has left has none.
 use Rattle.std.proofs.Common.{◌≡◌, ◌≢◌, ℕ, ◌<◌, Bool, true, false, IfSome, refl, sym, ◌∙◌, subst, arith}
-use Rattle.core_rule.proofs.Terms.{Heap, phase, IsMarking, LoadingMeta, Walking, Indexing, Getting, LoadingOld, ShadingOld, ShadingNew, Swapping, Place, State, seat_at, FitsWay}
+use Rattle.core_rule.proofs.Terms.{Heap, phase, IsMarking, LoadingMeta, Walking, Indexing, Getting, LoadingOld, ShadingOld, ShadingNew, Swapping, Point, State, seat_at, FitsWay}
 use Rattle.core_rule.proofs.Terms.{Seat, head_of, Book, Grey, IsMarked, ShadedStands, WhileAccess, IsReached, Rule, HasMarked}
-use Rattle.core_machine.specs.declared.place.Access.TheVariants.{LoadingSpot, Naming}
-use Rattle.core_machine.specs.declared.place.Place.TheVariants as places
+use Rattle.core_machine.specs.declared.point.Access.TheVariants.{LoadingSpot, Naming}
+use Rattle.core_machine.specs.declared.point.Point.TheVariants as points
 use Rattle.core_rule.specs.roots.Roots.{AtCall, OfRoots}
 use Rattle.core_rule.proofs.entries.AtRest.{seat_fits, in_flight_has_not_left}
 use Rattle.core_rule.proofs.marking.Ended.{reached_is_marked}
@@ -41,31 +41,31 @@ module _ (heap : Heap) (state : State) (book : Book) (rule : Rule heap state boo
   nothing_loaded : seat.loaded ≡ 0 → IfSome (head_of seat.loaded) Marked
   nothing_loaded zero = subst (λ word. IfSome (head_of word) Marked) (sym zero) tt
 
-  loaded_by_place : (place : Place) → seat.place ≡ place → FitsWay seat place → WhileAccess (AtCall Marked seat) place → WhileAccess (ShadedStands book.colour seat) place → IfSome (head_of seat.loaded) Marked
-  loaded_by_place (places.Access LoadingMeta) is fits call shaded = nothing_loaded fits.none_loaded
-  loaded_by_place (places.Access Walking) is fits call shaded = nothing_loaded fits.none_loaded
-  loaded_by_place (places.Access LoadingSpot) is fits call shaded = nothing_loaded fits.none_loaded
-  loaded_by_place (places.Access Indexing) is fits call shaded = nothing_loaded fits.none_loaded
-  loaded_by_place (places.Access Getting) is fits call shaded = nothing_loaded fits.1
-  loaded_by_place (places.Access Naming) is fits call shaded = call
-  loaded_by_place (places.Access LoadingOld) is fits call shaded = nothing_loaded fits.2
-  loaded_by_place (places.Access ShadingOld) is fits call shaded = call.1
-  loaded_by_place (places.Access ShadingNew) is fits call shaded = shaded
-  loaded_by_place (places.Access Swapping) is fits call shaded =
+  loaded_by_point : (point : Point) → seat.point ≡ point → FitsWay seat point → WhileAccess (AtCall Marked seat) point → WhileAccess (ShadedStands book.colour seat) point → IfSome (head_of seat.loaded) Marked
+  loaded_by_point (points.Access LoadingMeta) is fits call shaded = nothing_loaded fits.none_loaded
+  loaded_by_point (points.Access Walking) is fits call shaded = nothing_loaded fits.none_loaded
+  loaded_by_point (points.Access LoadingSpot) is fits call shaded = nothing_loaded fits.none_loaded
+  loaded_by_point (points.Access Indexing) is fits call shaded = nothing_loaded fits.none_loaded
+  loaded_by_point (points.Access Getting) is fits call shaded = nothing_loaded fits.1
+  loaded_by_point (points.Access Naming) is fits call shaded = call
+  loaded_by_point (points.Access LoadingOld) is fits call shaded = nothing_loaded fits.2
+  loaded_by_point (points.Access ShadingOld) is fits call shaded = call.1
+  loaded_by_point (points.Access ShadingNew) is fits call shaded = shaded
+  loaded_by_point (points.Access Swapping) is fits call shaded =
       let answered = seat_answered_the_phase (in_flight_has_not_left rule number here (λ idle. absurd (cc (idle, is)))) in
       let third = marks.for_marking in
       let same = rule.collector_stands.phase_told in
       (shaded (record { from = omega (arith, answered, third, same); upto = omega (arith, answered, third, same) })).0
-  loaded_by_place places.Idle is fits call shaded = nothing_loaded fits.none_loaded
-  loaded_by_place (places.Making place) is fits call shaded = nothing_loaded fits.none_loaded
-  loaded_by_place places.Local is fits call shaded = nothing_loaded fits.none_loaded
-  loaded_by_place (places.Polling place) is fits call shaded = nothing_loaded fits.none_loaded
-  loaded_by_place (places.Collecting place) is fits call shaded = nothing_loaded fits.none_loaded
-  loaded_by_place (places.Leaving place) is fits call shaded = nothing_loaded fits.none_loaded
+  loaded_by_point points.Idle is fits call shaded = nothing_loaded fits.none_loaded
+  loaded_by_point (points.Making point) is fits call shaded = nothing_loaded fits.none_loaded
+  loaded_by_point points.Local is fits call shaded = nothing_loaded fits.none_loaded
+  loaded_by_point (points.Polling point) is fits call shaded = nothing_loaded fits.none_loaded
+  loaded_by_point (points.Collecting point) is fits call shaded = nothing_loaded fits.none_loaded
+  loaded_by_point (points.Leaving point) is fits call shaded = nothing_loaded fits.none_loaded
 
   pub loaded_is_marked : IfSome (head_of seat.loaded) Marked
   loaded_is_marked =
       let third = marks.for_marking in
       let same = rule.collector_stands.phase_told in
-      loaded_by_place seat.place refl (seat_fits rule number here).way_at_place all_roots_are_marked.call
+      loaded_by_point seat.point refl (seat_fits rule number here).way_at_point all_roots_are_marked.call
       ((rule.seats_stand number here).cycle.flight.shaded (record { from = omega (arith, third, same); upto = omega (arith, third, same) }))

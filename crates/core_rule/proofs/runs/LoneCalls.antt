@@ -4,10 +4,10 @@ use Rattle.std.proofs.Common.{◌≡◌, ℕ, ◌+◌, ◌<◌, true, inl, inr, 
 use Rattle.std.proofs.lemmas.Bool.{eq-eqb}
 use Rattle.std.proofs.lemmas.List.{get_or-set_same, get_or-set_other}
 use Rattle.core_rule.proofs.Terms.{effect_of, taken_of, spent_of, words_granted, words_returned, Command, Entry, Heap, Withdrawing, State, seat_at, Event, Begins, BeginsInner}
-use Rattle.core_rule.proofs.Terms.{Steps, Turns, Can, Run, state_after, after_begin, entries, history, next_move, FitsPlace, IsAtRest, Seat, absent_seat, Book, IsAlone, Rule}
+use Rattle.core_rule.proofs.Terms.{Steps, Turns, Can, Run, state_after, after_begin, entries, history, next_move, FitsPoint, IsAtRest, Seat, absent_seat, Book, IsAlone, Rule}
 use Rattle.heap_model.specs.account.Noting.{is_collectors}
 use Rattle.heap_model.specs.declared.entry.Entry.TheVariants as entries
-use Rattle.core_machine.specs.declared.place.Place.TheVariants as places
+use Rattle.core_machine.specs.declared.point.Point.TheVariants as points
 use Rattle.core_machine.specs.machine.Calls.{within_reach}
 use Rattle.core_machine.proofs.machine_lemmas.Runs.{event_leaves_machine}
 use Rattle.core_rule.specs.runs.LoneLaws.{IsOfSeat, ShowsWhatWas, EachLoneRefusalIsRight}
@@ -23,7 +23,7 @@ use Rattle.core_rule.proofs.hand.Bodies.{bare_seat_holds_reserve}
 use Rattle.core_rule.proofs.looks.Origins.{IsUsual, begin_is_usual}
 use Rattle.core_rule.proofs.runs.ComingTurns.{turn_adds_collector_entries}
 use Rattle.core_rule.proofs.runs.LoneEntries.{IsNoOthers, all_of_append, all_of_implied, IsShown, step_adds_are_shown}
-use Rattle.core_rule.proofs.steps.Seats.{step_kind_of_each_place}
+use Rattle.core_rule.proofs.steps.Seats.{step_kind_of_each_point}
 use Rattle.core_rule.proofs.runs.LoneRefusals.{sum_of_grown_history, unanswered_makes_none, GoesAlone, WasWithin, refusal_shows_what_was}
 use Rattle.core_rule.proofs.runs.PlayNotes.{granted_is_used_and_returned}
 use Rattle.core_rule.proofs.runs.PlayRuns.{other_seat_same_after_move}
@@ -49,7 +49,7 @@ module _ (heap : Heap) (number : ℕ) (before : List Entry) (here : number < hea
         let now : State = state_after heap state (Steps number) in
         let es : List Entry = entries heap state (Steps number) in
         let keeps = each_step_keeps heap state book number rule here (goes.stands.looks number here) (event_leaves_machine heap state (Steps number) rule.machine can) in
-        let shown : AllByRecursion (IsShown number seat) es = step_adds_are_shown heap state number es ((step_kind_of_each_place seat.place).shows heap state number) in
+        let shown : AllByRecursion (IsShown number seat) es = step_adds_are_shown heap state number es ((step_kind_of_each_point seat.point).shows heap state number) in
         let calls : keeps.now.begun number ≡ length before = ap (λ (begun : ℕ → ℕ). begun number) keeps.calls ∙ goes.calls in
         let added : List Entry = goes.added ++ es in
         let grown : keeps.now.history ≡ before ++ added = keeps.grown ∙ ap (λ xs. xs ++ es) goes.grown ∙ append_assoc before goes.added es in
@@ -61,14 +61,14 @@ module _ (heap : Heap) (number : ℕ) (before : List Entry) (here : number < hea
             stands = stands_after_seat_step heap state book goes.stands number here keeps;
             alone = λ other below apart.
                 let same = other_seat_same_after_move heap state number other (next_move heap number seat) apart in
-                ap (λ (s : Seat). s.place) same ∙ goes.alone other (rw rule.machine.seated (rw keeps.rule.machine.seated at below)) apart;
+                ap (λ (s : Seat). s.point) same ∙ goes.alone other (rw rule.machine.seated (rw keeps.rule.machine.seated at below)) apart;
             calls = calls;
             added = added;
             grown = grown;
             own = own;
-            found = λ placed.
-                let none = unanswered_makes_none heap number before keeps.now added calls grown own ((keeps.rule.seats_stand number here).told.began.unanswered (making_is_not_answered Withdrawing (seat_at now number).place placed)) in
-                let tells = granted_is_used_and_returned heap state book number rule goes.alone (rw rule.machine.seated here) can placed in
+            found = λ point_is.
+                let none = unanswered_makes_none heap number before keeps.now added calls grown own ((keeps.rule.seats_stand number here).told.began.unanswered (making_is_not_answered Withdrawing (seat_at now number).point point_is)) in
+                let tells = granted_is_used_and_returned heap state book number rule goes.alone (rw rule.machine.seated here) can point_is in
                 let granted = sum_of_grown_history (λ e. (effect_of e).words) before added keeps.now.history grown in
                 let returned = sum_of_grown_history (λ e. (effect_of e).returned) before added keeps.now.history grown in
                 let words_now : words_granted keeps.now.history ≡ (seat_at now number).used + words_returned keeps.now.history
@@ -125,7 +125,7 @@ module _ (heap : Heap) (state : State) (book : Book) (number : ℕ) (command : C
   -- what is free, and what is in the reserve of a seat without a call in flight, is within its reach
   reach_was : WasWithin heap number book.history (within_reach heap state number)
   reach_was =
-      let rests : IsAtRest old = subst (FitsPlace heap old) can.1.idle (seat_fits stands.rule number here).at_place in
+      let rests : IsAtRest old = subst (FitsPoint heap old) can.1.idle (seat_fits stands.rule number here).at_point in
       let own : length old.reserve + spent_of number book.history ≡ taken_of number book.history
       = bare_seat_holds_reserve old.reserve old.hand old.body (spent_of number book.history) (taken_of number book.history) rests.empty_hand rests.no_body (stands.rule.seats_stand number here).told.counts.unborn in
       omega (arith, own, free_is_unused heap state book stands.rule)
@@ -139,14 +139,14 @@ module _ (heap : Heap) (state : State) (book : Book) (number : ℕ) (command : C
         keeps.now,
         record {
           stands = stands_after_begin heap state book stands number here command (begins number (length book.history) book.begun) can keeps;
-          alone = λ other below apart. ap (λ (s : Seat). s.place) (get_or-set_other state.seats number other begun absent_seat apart)
+          alone = λ other below apart. ap (λ (s : Seat). s.point) (get_or-set_other state.seats number other begun absent_seat apart)
               ∙ alone other (rw stands.rule.machine.seated (rw keeps.rule.machine.seated at below)) apart;
           calls = ap (λ (begun_at : ℕ → ℕ). begun_at number) keeps.calls ∙ first;
           added = [];
           grown = keeps.grown;
           own = tt;
-          found = λ placed.
-              let is : begun.place ≡ places.Making Withdrawing = ap (λ (s : Seat). s.place) (sym (get_or-set_same state.seats number begun absent_seat can.0)) ∙ placed in
+          found = λ point_is.
+              let is : begun.point ≡ points.Making Withdrawing = ap (λ (s : Seat). s.point) (sym (get_or-set_same state.seats number begun absent_seat can.0)) ∙ point_is in
               absurd (subst IsUsual is (begin_is_usual heap old command can.1.idle));
         },
       )

@@ -9,7 +9,7 @@ use Rattle.heap_model.specs.account.Noting.{is_collectors}
 use Rattle.heap_model.specs.declared.account.effect.Effect.{Effect}
 use Rattle.heap_model.specs.declared.entry.Entry.TheVariants as entries
 use Rattle.heap_model.specs.declared.reply.Reply.TheVariants as replies
-use Rattle.core_machine.specs.declared.place.Place.TheVariants as places
+use Rattle.core_machine.specs.declared.point.Point.TheVariants as points
 use Rattle.core_rule.proofs.entries.PhasesTold.{told_cases}
 use Rattle.core_rule.proofs.entries.StepTells.{SeatTells, SeatShows, takes, gives, says, refuses, refuses_words, waits, shows_none, shows_one, shows_answer}
 use Rattle.core_rule.proofs.runs.Plays.{IsPlainReply}
@@ -41,15 +41,15 @@ collectors_none (entries.GivesBack number count) its = absurd (cc its)
 collectors_none _ its = (refl, refl, refl, refl)
 
 -- so others took and gave back nothing
-pub others_none : (number : ℕ) (part : Effect → ℕ) → ((entry : Entry) → is_collectors entry ≡ true → part (effect_of entry) ≡ 0) → (added : List Entry)
-    → AllByRecursion (IsNoOthers number) added → sum_by (λ e. if is_of number e then 0 else part (effect_of e)) added ≡ 0
-others_none number part none added all = sum_none (λ e. if is_of number e then 0 else part (effect_of e)) (IsNoOthers number) each added all
+pub others_none : (number : ℕ) (summand : Effect → ℕ) → ((entry : Entry) → is_collectors entry ≡ true → summand (effect_of entry) ≡ 0) → (added : List Entry)
+    → AllByRecursion (IsNoOthers number) added → sum_by (λ e. if is_of number e then 0 else summand (effect_of e)) added ≡ 0
+others_none number summand none added all = sum_none (λ e. if is_of number e then 0 else summand (effect_of e)) (IsNoOthers number) each added all
   where
-    each : (entry : Entry) → IsNoOthers number entry → (if is_of number entry then 0 else part (effect_of entry)) ≡ 0
+    each : (entry : Entry) → IsNoOthers number entry → (if is_of number entry then 0 else summand (effect_of entry)) ≡ 0
     each entry (inl own) = rw own refl
     each entry (inr collectors) = by (is_of number entry) (none entry collectors)
       where
-        by : (b : Bool) → part (effect_of entry) ≡ 0 → (if b then 0 else part (effect_of entry)) ≡ 0
+        by : (b : Bool) → summand (effect_of entry) ≡ 0 → (if b then 0 else summand (effect_of entry)) ≡ 0
         by true same = refl
         by false same = same
 
@@ -80,8 +80,8 @@ others_give_none number = others_none number (λ e. e.given) (λ entry its. (col
 
 -- where it refuses for want of space, the seat stands there, and has found so many
 abbrev pub RefusesAt : Seat → Entry → Type 0
-RefusesAt seat (entries.Said other command (replies.Full need found)) = (seat.place ≡ places.Making Refusing) × (found ≡ length seat.reserve + seat.given)
-RefusesAt seat (entries.Said other command (replies.SpineFull need shown)) = (seat.place ≡ places.Making Withdrawing) × (shown ≡ seat.used % 2 ^ 32)
+RefusesAt seat (entries.Said other command (replies.Full need found)) = (seat.point ≡ points.Making Refusing) × (found ≡ length seat.reserve + seat.given)
+RefusesAt seat (entries.Said other command (replies.SpineFull need shown)) = (seat.point ≡ points.Making Withdrawing) × (shown ≡ seat.used % 2 ^ 32)
 RefusesAt seat _ = Unit {0}
 
 -- an entry that a seat's step shows
@@ -104,7 +104,7 @@ module _ (heap : Heap) (state : State) (number : ℕ) where
   plain_refuses command (replies.SpineFull need used) plain = absurd plain
   plain_refuses command _ plain = tt
 
-  own_shown : (entry : Entry) → SeatTells number seat seat.place entry → IsShown number seat entry
+  own_shown : (entry : Entry) → SeatTells number seat seat.point entry → IsShown number seat entry
   own_shown _ (takes count) = record { own = itself number; refuses = tt }
   own_shown _ (gives count) = record { own = itself number; refuses = tt }
   own_shown _ (says reply plain) = record { own = itself number; refuses = plain_refuses seat.command reply plain }
@@ -113,7 +113,7 @@ module _ (heap : Heap) (state : State) (number : ℕ) where
   own_shown _ (waits other answered p is) = record { own = itself number; refuses = tt }
 
   -- what the seat's step shows
-  pub step_adds_are_shown : (added : List Entry) → SeatShows number seat seat.place added → AreShown added
+  pub step_adds_are_shown : (added : List Entry) → SeatShows number seat seat.point added → AreShown added
   step_adds_are_shown _ shows_none = tt
   step_adds_are_shown _ (shows_one entry tells) = (own_shown entry tells, tt)
   step_adds_are_shown _ (shows_answer is) =

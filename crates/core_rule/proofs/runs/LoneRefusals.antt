@@ -9,7 +9,7 @@ use Rattle.core_rule.proofs.Terms.{Withdrawing, Refusing, State, seat_at, histor
 use Rattle.heap_model.specs.declared.entry.Entry.TheVariants as entries
 use Rattle.heap_model.specs.declared.reply.Reply.TheVariants as replies
 use Rattle.heap_model.proofs.account_lemmas.Windows.{total_is_own_and_others}
-use Rattle.core_machine.specs.declared.place.Place.TheVariants as places
+use Rattle.core_machine.specs.declared.point.Point.TheVariants as points
 use Rattle.core_rule.specs.runs.LoneLaws.{ShowsWhatWas}
 use Rattle.core_rule.specs.Stands.{Stands}
 use Rattle.core_rule.proofs.counts.FreeSums.{taken_and_free_make_all, all_passed_is_all_free}
@@ -39,7 +39,7 @@ module _ (heap : Heap) (number : ℕ) (before : List Entry) where
     pub added : List Entry
     pub grown : book.history ≡ before ++ added
     pub own : AllByRecursion (IsNoOthers number) added
-    pub found : (seat_at state number).place ≡ places.Making Withdrawing → (seat_at state number).used + words_returned before ≤ words_granted before
+    pub found : (seat_at state number).point ≡ points.Making Withdrawing → (seat_at state number).used + words_returned before ≤ words_granted before
 
   -- so much was within the seat's reach then
   abbrev pub WasWithin : ℕ → Type 0
@@ -56,18 +56,18 @@ module _ (heap : Heap) (number : ℕ) (before : List Entry) where
     grown_by f = sum_of_grown_history f before goes.added book.history goes.grown
 
     -- a refusal of fragments: what was free then was claimed, or came free meanwhile
-    refuses_rightly : (reach : ℕ) → WasWithin reach → seat.place ≡ places.Making Refusing → reach ≤ length seat.reserve + seat.given
-    refuses_rightly reach was placed =
+    refuses_rightly : (reach : ℕ) → WasWithin reach → seat.point ≡ points.Making Refusing → reach ≤ length seat.reserve + seat.given
+    refuses_rightly reach was point_is =
         let stands = rule.seats_stand number here in
         let fits = seat_fits rule number here in
-        let refuses : SeatIsRefusing heap seat × (seat.hand ≡ []) = rw placed at fits.at_place in
+        let refuses : SeatIsRefusing heap seat × (seat.hand ≡ []) = rw point_is at fits.at_point in
         let own = refusing_reserve_is_taken heap state book number rule here refuses in
         let gathers : GathersRight heap book.owner number goes.added seat.cursor heap.groups seat.given
         = subst (λ es. GathersRight heap book.owner number es seat.cursor heap.groups seat.given) (since_begun book goes.added goes.calls goes.grown)
         (subst (λ n. GathersRight heap book.owner number (drop (book.begun number) book.history) seat.cursor n seat.given) refuses.0.all_tried stands.told.gathers) in
         let all = taken_and_free_make_all (16 * heap.groups) book.owner in
         let passed = all_passed_is_all_free heap book.owner seat.cursor fits.own.cursor_within in
-        let made = unanswered_makes_none book goes.added goes.calls goes.grown goes.own (stands.told.began.unanswered (making_is_not_answered Refusing seat.place placed)) in
+        let made = unanswered_makes_none book goes.added goes.calls goes.grown goes.own (stands.told.began.unanswered (making_is_not_answered Refusing seat.point point_is)) in
         omega (
           arith,
           was,

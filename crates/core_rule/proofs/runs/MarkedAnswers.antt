@@ -6,11 +6,11 @@ use Rattle.core_rule.proofs.Terms.{Entry, Said, Answers, Heap, cycle_phases, mar
 use Rattle.core_rule.proofs.Terms.{WhilePolling, HasMarkedRoots, EachAnswerIsMarked}
 use Rattle.heap_model.specs.declared.reply.Reply.TheVariants.{Phase}
 use Rattle.heap_model.specs.account.Noting.{is_collectors}
-use Rattle.core_machine.specs.declared.place.Place.TheVariants as places
-use Rattle.core_machine.specs.declared.place.Polling.TheVariants.{Answering}
+use Rattle.core_machine.specs.declared.point.Point.TheVariants as points
+use Rattle.core_machine.specs.declared.point.Polling.TheVariants.{Answering}
 use Rattle.core_machine.specs.seat.HandshakeMoves.{phase_told}
 use Rattle.core_rule.proofs.entries.PhasesTold.{told_cases}
-use Rattle.core_rule.proofs.steps.Seats.{step_kind_of_each_place}
+use Rattle.core_rule.proofs.steps.Seats.{step_kind_of_each_point}
 use Rattle.core_rule.proofs.entries.StepTells.{SeatTells, SeatShows, takes, gives, says, refuses, refuses_words, waits, shows_none, shows_one, shows_answer}
 use Rattle.core_rule.proofs.runs.ComingTurns.{turn_adds_collector_entries}
 use Rattle.core_rule.proofs.runs.Runs.{stepping_seat_is_there}
@@ -25,9 +25,9 @@ module _ (heap : Heap) (state : State) (colour : ℕ → Colour) where
   one_marked : (entry : Entry) → HasMarkedRoots state colour entry → AreMarked (entry ∷ [])
   one_marked entry marked = All-cons (HasMarkedRoots state colour) entry [] marked none_marked
 
-  module _ (number : ℕ) (at_answer : (seat_at state number).place ≡ places.Polling Answering → (seat_at state number).asked % cycle_phases ≡ marking → (r : ℕ) → IsRootMarked colour (seat_at state number).registers r) where
+  module _ (number : ℕ) (at_answer : (seat_at state number).point ≡ points.Polling Answering → (seat_at state number).asked % cycle_phases ≡ marking → (r : ℕ) → IsRootMarked colour (seat_at state number).registers r) where
     -- an entry that is no answer asks for nothing
-    told_marked : (entry : Entry) → SeatTells number (seat_at state number) (seat_at state number).place entry → AreMarked (entry ∷ [])
+    told_marked : (entry : Entry) → SeatTells number (seat_at state number) (seat_at state number).point entry → AreMarked (entry ∷ [])
     told_marked _ (takes count) = one_marked _ tt
     told_marked _ (gives count) = one_marked _ tt
     told_marked _ (says reply plain) = one_marked _ tt
@@ -36,7 +36,7 @@ module _ (heap : Heap) (state : State) (colour : ℕ → Colour) where
     told_marked _ (waits other answered p is) = one_marked _ tt
 
     -- what a step shows
-    shown_marked : (added : List Entry) → SeatShows number (seat_at state number) (seat_at state number).place added → AreMarked added
+    shown_marked : (added : List Entry) → SeatShows number (seat_at state number) (seat_at state number).point added → AreMarked added
     shown_marked _ shows_none = none_marked
     shown_marked _ (shows_one entry tells) = told_marked entry tells
     shown_marked _ (shows_answer is) =
@@ -58,6 +58,6 @@ each_answer_is_marked heap state book (BeginsInner number inner) rule can = none
 each_answer_is_marked heap state book (Steps number) rule can =
     let stands = rule.seats_stand number (stepping_seat_is_there heap state book number rule can) in
     shown_marked heap state book.colour number
-    (λ placed. subst (λ place. (seat_at state number).asked % cycle_phases ≡ marking → WhilePolling (RootsStand book.colour (seat_at state number)) place) placed stands.cycle.flight.roots)
-    (entries heap state (Steps number)) ((step_kind_of_each_place (seat_at state number).place).shows heap state number)
+    (λ point_is. subst (λ point. (seat_at state number).asked % cycle_phases ≡ marking → WhilePolling (RootsStand book.colour (seat_at state number)) point) point_is stands.cycle.flight.roots)
+    (entries heap state (Steps number)) ((step_kind_of_each_point (seat_at state number).point).shows heap state number)
 each_answer_is_marked heap state book Turns rule can = collectors_marked heap state book.colour (entries heap state Turns) (turn_adds_collector_entries heap state)

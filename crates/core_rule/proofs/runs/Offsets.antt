@@ -8,10 +8,10 @@ use Rattle.core_rule.proofs.budgets.OffsetWithin.{offset_within_granted_and_plac
 
 -- what a seat has that is about to place its spine is granted, and has no place yet
 pub each_grant_is_placed : EachGrantIsPlaced
-each_grant_is_placed heap state book number rule here placed =
+each_grant_is_placed heap state book number rule here point_is =
     let seat = seat_at state number in
-    let none = ap (placed_at (next_spine heap state.words).half seat) placed in
-    let its = ap (granted_at seat) placed in
+    let none = ap (placed_at (next_spine heap state.words).half seat) point_is in
+    let its = ap (granted_at seat) point_is in
     omega (arith, offset_within_granted_and_placed heap state book rule.heap_stands.control_words rule.space.budgets rule.space.halves number here, none, its, rule.space.budgets.low)
 
 pub each_copy_fits : EachCopyFits

@@ -53,13 +53,13 @@ opening_are_made heap = record {
 module _ (heap : Heap) (words : List ℕ) (some : 1 ≤ heap.groups) (open_words : (address : Address) → InTable heap address → at heap words address ≡ opening_word heap address) where
   group_taken : (f : ℕ) → f < 16 * heap.groups → bit_at (opening_word heap (Control (f / 16))) (taken_at f) ≡ taken_bit (opening_owner f)
   group_taken f within = elim (eqb_tells (f / 16) 0) as (λ _. bit_at (opening_word heap (Control (f / 16))) (taken_at f) ≡ taken_bit (opening_owner f)) [
-    | inl first ↦ let place : f % 16 ≡ f = omega (arith, first.1) in rw (first.0, place) (board_bit_is_taken_bit heap f (omega (arith, first.1)))
+    | inl first ↦ let position : f % 16 ≡ f = omega (arith, first.1) in rw (first.0, position) (board_bit_is_taken_bit heap f (omega (arith, first.1)))
     | inr later ↦ rw (later.0, beyond_board_is_free f (omega (arith, later.1))) (bit_at-zero (f % 16))
   ]
 
   group_born : (f : ℕ) → f < 16 * heap.groups → bit_at (opening_word heap (Control (f / 16))) (born_at f) ≡ born_bit (opening_owner f)
   group_born f within = elim (eqb_tells (f / 16) 0) as (λ _. bit_at (opening_word heap (Control (f / 16))) (born_at f) ≡ born_bit (opening_owner f)) [
-    | inl first ↦ let place : f % 16 ≡ f = omega (arith, first.1) in rw (first.0, place) (board_bit_is_born_bit heap f (omega (arith, first.1)))
+    | inl first ↦ let position : f % 16 ≡ f = omega (arith, first.1) in rw (first.0, position) (board_bit_is_born_bit heap f (omega (arith, first.1)))
     | inr later ↦ rw (later.0, beyond_board_is_free f (omega (arith, later.1))) (bit_at-zero (born_at f))
   ]
 
@@ -107,9 +107,9 @@ module _ (heap : Heap) (words : List ℕ) (some : 1 ≤ heap.groups) (open_words
         let blank : cell ≡ unset = fresh_cell_is_unset 32 j cell (subst (λ x. slice_get (cells_at (opening heap) opening_made x) j ≡ Some cell) none there) in
         subst (λ (c : Cell). NamesKept opening_made opening_owner (opening_fragments heap) c.value × (c.stamp < 2 ^ 32)) (sym blank) (tt, omega arith);
     back = λ f i k. opening_owner_cases (λ o. o ≡ Kept i k → (i < length opening_made) × IsKept opening_owner (opening_fragments heap) i × (k < length (opening_fragments heap i)) × (f ≡ fragment_at (opening_fragments heap i) k)) f
-        (λ below is. let object : 0 ≡ i = cc in let part : f ≡ k = cc in
+        (λ below is. let object : 0 ≡ i = cc in let position : f ≡ k = cc in
         subst (λ x. (x < length opening_made) × IsKept opening_owner (opening_fragments heap) x × (k < length (opening_fragments heap x)) × (f ≡ fragment_at (opening_fragments heap x) k)) object
-        (omega arith, refl, omega (arith, part, below), part ∙ sym (board_fragment_is_number heap k (omega (arith, part, below)))))
+        (omega arith, refl, omega (arith, position, below), position ∙ sym (board_fragment_is_number heap k (omega (arith, position, below)))))
         (λ past is. absurd (cc));
     board = refl;
   }

@@ -7,7 +7,7 @@ use Rattle.std.proofs.lemmas.Nat.Bits.{bit_at_above}
 use Rattle.core_rule.proofs.Terms.{Heap, sum_upto, fragment_at, AreUsed, Owner, Free, Kept, IsSeated, OwnersStand, taken_bit, born_bit}
 use Rattle.core_machine.specs.machine.Opening.{board, board_group}
 use Rattle.core_machine.proofs.table_lemmas.Free.{sum_of_nothing_is_zero}
-use Rattle.core_rule.proofs.lists.SumLemmas.{sum_parts, sum_ones}
+use Rattle.core_rule.proofs.lists.SumLemmas.{sum_in_two_summands, sum_ones}
 
 -- the first eleven fragments are the board's
 abbrev pub opening_owner : ℕ → Owner
@@ -68,9 +68,9 @@ board_bit_is_unmarked heap i past = bit_at_above (board_group heap) 32 i (omega 
 -- eleven are in use
 pub opening_used : (heap : Heap) → 1 ≤ heap.groups → AreUsed heap opening_owner []
 opening_used heap some =
-    let parts : 16 * heap.groups ≡ 11 + (16 * heap.groups - 11) = omega arith in
-    let all = sum_parts 11 (16 * heap.groups - 11) (λ f. taken_bit (opening_owner f)) in
+    let summands : 16 * heap.groups ≡ 11 + (16 * heap.groups - 11) = omega arith in
+    let all = sum_in_two_summands 11 (16 * heap.groups - 11) (λ f. taken_bit (opening_owner f)) in
     let kept = sum_ones 11 (λ f. taken_bit (opening_owner f)) (λ f below. ap taken_bit (boards f below)) in
     let free = sum_of_nothing_is_zero (16 * heap.groups - 11) (λ f. taken_bit (opening_owner (11 + f))) (λ f below. ap taken_bit (beyond_board_is_free (11 + f) (omega arith))) in
-    let sums : sum_upto (16 * heap.groups) (λ f. taken_bit (opening_owner f)) ≡ 11 = ap (λ n. sum_upto n (λ f. taken_bit (opening_owner f))) parts ∙ omega (arith, all, kept, free) in
+    let sums : sum_upto (16 * heap.groups) (λ f. taken_bit (opening_owner f)) ≡ 11 = ap (λ n. sum_upto n (λ f. taken_bit (opening_owner f))) summands ∙ omega (arith, all, kept, free) in
     omega (arith, sums)

@@ -1,13 +1,13 @@
 -- When a heap opens nobody has a spine word, and none is granted.
 use Rattle.std.proofs.Common.{◌≡◌, ◌≢◌, ℕ, ◌*◌, ◌%◌, ◌<◌, ◌==◌, true, List, [], refl, sym, ap, ◌∙◌, subst, arith}
 use Rattle.std.specs.Prelude.{if◌then◌else◌}
-use Rattle.core_rule.proofs.Terms.{cycle_phases, spot_in, spot_word, Heap, opening, spine_words_of, Collector, opening_collector, Place, Budget, State, seat_at, Seat, no_spot, at}
+use Rattle.core_rule.proofs.Terms.{cycle_phases, spot_in, spot_word, Heap, opening, spine_words_of, Collector, opening_collector, Point, Budget, State, seat_at, Seat, no_spot, at}
 use Rattle.core_rule.proofs.Terms.{Book, White, BudgetsStand, SweepCounts, of_seats, granted_at, placed_at, refused_at, kept_weight, dead_weight, kept_sum, dead_sum}
 use Rattle.core_rule.proofs.Terms.{words_of_object, words_in_half, nodes_in, returning, copying_words, HalvesStand, WhileCopying, half_at, node_at, SpineOwner, Open, Dead}
 use Rattle.core_rule.proofs.Terms.{CopyingStands, CopyInHand, SpinesStand, SpineInHand, HasPlace, next_spine}
 use Rattle.heap_model.specs.PhasePlan.{copying as copying_phase}
 use Rattle.heap_words.specs.declared.spot.Spot.{Spot as SpinePlace}
-use Rattle.core_machine.specs.declared.place.Place.TheVariants as places
+use Rattle.core_machine.specs.declared.point.Point.TheVariants as points
 use Rattle.core_machine.specs.declared.table.address.Address.TheVariants.{Spot}
 use Rattle.core_machine.specs.machine.Opening.{opening_seat, opening_word}
 use Rattle.core_machine.proofs.table_lemmas.Free.{sum_of_nothing_is_zero}
@@ -58,9 +58,9 @@ opening_book heap = record {
 
 module _ (heap : Heap) (state : State) (seats : (number : ℕ) → number < heap.seats → seat_at state number ≡ opening_seat heap number) where
   -- no seat has asked for spine words
-  none_of_seats : (weight : Seat → Place → ℕ) → ((number : ℕ) → weight (opening_seat heap number) places.Idle ≡ 0) → of_seats heap state weight ≡ 0
-  none_of_seats weight none = sum_of_nothing_is_zero heap.seats (λ r. weight (seat_at state r) (seat_at state r).place)
-      (λ r below. subst (λ (s : Seat). weight s s.place ≡ 0) (sym (seats r below)) (none r))
+  none_of_seats : (weight : Seat → Point → ℕ) → ((number : ℕ) → weight (opening_seat heap number) points.Idle ≡ 0) → of_seats heap state weight ≡ 0
+  none_of_seats weight none = sum_of_nothing_is_zero heap.seats (λ r. weight (seat_at state r) (seat_at state r).point)
+      (λ r below. subst (λ (s : Seat). weight s s.point ≡ 0) (sym (seats r below)) (none r))
 
   -- the board has none, and nothing is to be freed
   none_kept : (weight : ℕ → ℕ) → weight 0 ≡ 0 → kept_sum heap weight opening_owner ≡ 0
@@ -103,7 +103,7 @@ module _ (heap : Heap) (state : State) (seats : (number : ℕ) → number < heap
       half = ap (λ (s : SpinePlace). s.half) next ∙ subst (λ (c : Collector). 0 ≡ half_at c.phase c.stage) (sym done) refl;
       before = λ half offset some. absurd (some refl);
       arrays = λ i below is an_array. absurd (no_array i below an_array);
-      hands = λ number below has. absurd (subst (λ (s : Seat). ¬ HasPlace s s.place) (sym (seats number below)) (λ none. none) has);
+      hands = λ number below has. absurd (subst (λ (s : Seat). ¬ HasPlace s s.point) (sym (seats number below)) (λ none. none) has);
       swung = λ copies. absurd (subst (λ (c : Collector). c.phase % cycle_phases ≢ copying_phase) (sym done) (λ e. omega (arith, e)) copies);
       copies = subst (λ (c : Collector). WhileCopying (CopyingStands (nodes_in heap (opening_book heap)) opening_made opening_owner (λ f. White) (opening_fragments heap) opening_spines (next_spine heap state.words).half) c.stage)
           (sym done) tt;

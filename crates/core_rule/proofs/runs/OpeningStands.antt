@@ -10,7 +10,7 @@ use Rattle.heap_model.specs.declared.id.Value.TheVariants as values
 use Rattle.heap_model.specs.Heap.{IsHeap}
 use Rattle.heap_model.specs.graph.Graph.{GraphSeat, unseen}
 use Rattle.core_machine.specs.declared.table.address.Address.TheVariants.{Answer, Phase, Spot}
-use Rattle.core_machine.specs.declared.place.Place.TheVariants as places
+use Rattle.core_machine.specs.declared.point.Point.TheVariants as points
 use Rattle.core_machine.specs.declared.seat.register.Register.TheVariants as registers
 use Rattle.core_machine.specs.declared.collector.stage.Stage.TheVariants as stages
 use Rattle.core_machine.specs.machine.Opening.{IsOpening, opening_seat, opening_word}
@@ -37,7 +37,7 @@ opening_held : (heap : Heap) (r : ℕ) → Now heap (get_or (registers.Object 0 
 opening_held heap zero = (refl, (omega arith, refl), refl)
 opening_held heap (suc r) = nil_registers heap 15 r
 
-opening_registers : (heap : Heap) (number : ℕ) → number < heap.seats → Registers (opening heap) opening_made opening_owner (opening_fragments heap) number (opening_seat heap number).registers places.Idle 0
+opening_registers : (heap : Heap) (number : ℕ) → number < heap.seats → Registers (opening heap) opening_made opening_owner (opening_fragments heap) number (opening_seat heap number).registers points.Idle 0
 opening_registers heap number below r fresh = subst (λ (p : GraphSeat). Now heap (get_or (opening_seat heap number).registers r registers.Nil) (get_or p.registers r unset).value) (sym (opening_graph_has_opening_seats heap number below)) (opening_held heap r)
 
 -- no seat has answered
@@ -140,6 +140,6 @@ opening_stands heap state fits opens = record {
   stands = record {
     rule = opening_rule heap state fits (opening_is_machine heap state fits opens) opens;
     cycle = λ running. absurd (running refl);
-    looks = λ number below. subst (λ (s : Seat). LooksStand heap [] number s.place s.looks) (sym (seat_at_opening heap state number opens below)) record { seen = omega arith; found = λ unnamed. record { first = tt; behind = tt }; asks = tt; compares = λ other p comparing. absurd (cc comparing) };
+    looks = λ number below. subst (λ (s : Seat). LooksStand heap [] number s.point s.looks) (sym (seat_at_opening heap state number opens below)) record { seen = omega arith; found = λ unnamed. record { first = tt; behind = tt }; asks = tt; compares = λ other p comparing. absurd (cc comparing) };
   };
 }

@@ -2,7 +2,7 @@
 use Rattle.std.specs.List.{list_all}
 use Rattle.std.proofs.Common.{◌≡◌, ◌≢◌, ℕ, ◌+◌, ◌%◌, ◌^◌, ◌<◌, ◌≤◌, true, false, List, [], ◌∷◌, ◌++◌, length, drop, refl, sym, ◌∙◌, subst, arith}
 use Rattle.std.proofs.lemmas.Bool.{eq-eqb}
-use Rattle.core_rule.proofs.Terms.{Command, Entry, Heap, KeepsSpace, is_of, words_granted, words_returned, phase, Withdrawing, Refusing, Place, SeatIsRefusing, State, seat_at}
+use Rattle.core_rule.proofs.Terms.{Command, Entry, Heap, KeepsSpace, is_of, words_granted, words_returned, phase, Withdrawing, Refusing, Point, SeatIsRefusing, State, seat_at}
 use Rattle.core_rule.proofs.Terms.{full_entry, spine_full_entry, Seat, need, spine_need, Book, GathersRight, IsBehindNow, Rule}
 use Rattle.heap_model.specs.Behind.{behind_of}
 use Rattle.heap_model.specs.declared.command.Command.TheVariants as commands
@@ -11,9 +11,9 @@ use Rattle.heap_model.specs.declared.reply.Reply.TheVariants as replies
 use Rattle.heap_model.specs.account.Refusals.{FindsSpace}
 use Rattle.heap_model.specs.account.Phases.{IsBehind, ShowsWait, ShowsPhases}
 use Rattle.heap_model.specs.declared.calls.collect.CollectReply.TheVariants as notes
-use Rattle.core_machine.specs.declared.place.Collecting.TheVariants.{Noting}
+use Rattle.core_machine.specs.declared.point.Collecting.TheVariants.{Noting}
 use Rattle.core_machine.specs.seat.HandshakeMoves.{phase_told}
-use Rattle.core_machine.specs.declared.place.Place.TheVariants as places
+use Rattle.core_machine.specs.declared.point.Point.TheVariants as points
 use Rattle.core_rule.proofs.entries.AtRest.{refusing_reserve_is_taken, seat_fits}
 use Rattle.core_rule.proofs.entries.PhasesTold.{told_cases}
 use Rattle.core_rule.proofs.looks.Words.{word_is_last_answer}
@@ -22,9 +22,9 @@ use Rattle.core_rule.proofs.runs.Plays.{keeps_space_of_waits, keeps_space_of_spi
 use Rattle.core_rule.proofs.entries.MakingCommands.{keeps_space_of_full}
 
 -- what a seat has found is so now: one that it is about to note stands behind by its word, and as many spine words are in use as its refusal tells
-abbrev pub FoundNow : Heap → List ℕ → List Entry → Seat → Place → Type 0
-FoundNow heap words history seat (places.Collecting (Noting (notes.Waits other answer p))) = IsBehindNow heap words other answer p
-FoundNow heap words history seat (places.Making Withdrawing) = words_granted history ≡ seat.used + words_returned history
+abbrev pub FoundNow : Heap → List ℕ → List Entry → Seat → Point → Type 0
+FoundNow heap words history seat (points.Collecting (Noting (notes.Waits other answer p))) = IsBehindNow heap words other answer p
+FoundNow heap words history seat (points.Making Withdrawing) = words_granted history ≡ seat.used + words_returned history
 FoundNow heap words history seat _ = Unit {0}
 
 -- the entries are the seat's, and may stand in a play where they may in a run
@@ -47,13 +47,13 @@ module _ (heap : Heap) (before : List Entry) (number : ℕ) where
         );
       }
 
-refusal : (heap : Heap) (state : State) (book : Book) (number : ℕ) → Rule heap state book → number < heap.seats → (seat_at state number).place ≡ places.Making Refusing
+refusal : (heap : Heap) (state : State) (book : Book) (number : ℕ) → Rule heap state book → number < heap.seats → (seat_at state number).point ≡ points.Making Refusing
     → list_all (is_of number) (drop (book.begun number) book.history) ≡ true → AddsPlay heap book.history number (full_entry number (seat_at state number) ∷ [])
-refusal heap state book number rule here placed alone =
+refusal heap state book number rule here point_is alone =
     let seat : Seat = seat_at state number in
     let stands = rule.seats_stand number here in
     let fits = seat_fits rule number here in
-    let refuses : SeatIsRefusing heap seat × (seat.hand ≡ []) = rw placed at fits.at_place in
+    let refuses : SeatIsRefusing heap seat × (seat.hand ≡ []) = rw point_is at fits.at_point in
     let own = refusing_reserve_is_taken heap state book number rule here refuses in
     let finds : FindsSpace heap true book.history number (length seat.reserve + seat.given)
     = finds_space_in_play heap book.owner book.history number (book.begun number) seat.cursor seat.given (length seat.reserve) fits.own.cursor_within
@@ -87,11 +87,11 @@ noted_behind heap state book number rule other answer p now command shows collec
 
 -- what the step due of a seat adds, where all entries since its call began are its own
 module _ (heap : Heap) (state : State) (book : Book) (number : ℕ) (rule : Rule heap state book) (here : number < heap.seats)
-    (alone : list_all (is_of number) (drop (book.begun number) book.history) ≡ true) (now : FoundNow heap state.words book.history (seat_at state number) (seat_at state number).place) where
+    (alone : list_all (is_of number) (drop (book.begun number) book.history) ≡ true) (now : FoundNow heap state.words book.history (seat_at state number) (seat_at state number).point) where
   abbrev seat : Seat
   seat = seat_at state number
 
-  told_plays : (entry : Entry) → SeatTells number seat seat.place entry → AddsPlay heap book.history number (entry ∷ [])
+  told_plays : (entry : Entry) → SeatTells number seat seat.point entry → AddsPlay heap book.history number (entry ∷ [])
   told_plays _ (takes count) = one heap book.history number _ (eq-eqb number number refl) (keeps_space_of_plain heap book.history _ (taking number count))
   told_plays _ (gives count) = one heap book.history number _ (eq-eqb number number refl) (keeps_space_of_plain heap book.history _ (giving number count))
   told_plays _ (says reply plain) = one heap book.history number _ (eq-eqb number number refl) (keeps_space_of_plain heap book.history _ (saying number seat.command reply plain))
@@ -101,7 +101,7 @@ module _ (heap : Heap) (state : State) (book : Book) (number : ℕ) (rule : Rule
       one heap book.history number _ (eq-eqb number number refl)
       (keeps_space_of_waits heap book.history number seat.command other answered p (noted_behind heap state book number rule other answered p (subst (FoundNow heap state.words book.history seat) is now) seat.command))
 
-  pub adds_entries_of_play : (added : List Entry) → SeatShows number seat seat.place added → AddsPlay heap book.history number added
+  pub adds_entries_of_play : (added : List Entry) → SeatShows number seat seat.point added → AddsPlay heap book.history number added
   adds_entries_of_play _ shows_none = record { own = refl; may = tt }
   adds_entries_of_play _ (shows_one entry tells) = told_plays entry tells
   adds_entries_of_play _ (shows_answer is) = answered heap book.history number seat.command seat.asked

@@ -9,7 +9,7 @@ use Rattle.std.proofs.lemmas.List.Folds.{list_all-append}
 use Rattle.core_rule.proofs.Terms.{Command, Entry, Heap, IsLegal, is_of, opening, next_turn, State, seat_at, found_by, state_after_due, Event, Begins, BeginsInner, Steps, Turns}
 use Rattle.core_rule.proofs.Terms.{Can, state_after, entries, Run, history, after_inner_begin, Move, move_at, next_move, Seat, absent_seat, Book, IsAlone, AllIdle, OneCallAtATime}
 use Rattle.core_rule.proofs.Terms.{WholeCallsPlay, HappensAlone, NotesNow}
-use Rattle.core_machine.specs.declared.place.Place.TheVariants as places
+use Rattle.core_machine.specs.declared.point.Point.TheVariants as points
 use Rattle.heap_model.specs.declared.calls.collect.Inner.{Inner}
 use Rattle.core_rule.specs.Stands.{Stands}
 use Rattle.core_rule.proofs.entries.Begins.{begins}
@@ -17,7 +17,7 @@ use Rattle.core_rule.proofs.sweep_exact.EndsRightly.{cycle_ends_rightly}
 use Rattle.core_rule.proofs.footprint.SeatCycle.{stands_after_seat_step, stands_after_begin, stands_after_inner_begin}
 use Rattle.core_rule.proofs.footprint.TurnCycle.{stands_after_turn}
 use Rattle.core_rule.proofs.steps.Assemble.{Keeps}
-use Rattle.core_rule.proofs.steps.Seats.{step_kind_of_each_place}
+use Rattle.core_rule.proofs.steps.Seats.{step_kind_of_each_point}
 use Rattle.core_rule.proofs.runs.PlayEntries.{AddsPlay, FoundNow, adds_entries_of_play}
 use Rattle.core_rule.proofs.runs.PlayNotes.{found_now_when_idle, found_now_when_alone, found_now_after_step, found_now_after_begin, found_now_after_inner, found_now_at_opening}
 use Rattle.core_rule.proofs.entries.TurnShapes.{shape_may_play}
@@ -29,8 +29,8 @@ use Rattle.core_rule.proofs.runs.Runs.{MachineStays, OpeningStands, EachStepKeep
 pub record PlaysOn (heap : Heap) (state : State) (book : Book) : Type 0 where
   pub stands : Stands heap state book
   pub legal : IsLegal heap true book.history
-  pub noted : (number : ℕ) → number < heap.seats → FoundNow heap state.words book.history (seat_at state number) (seat_at state number).place
-  pub own : (number : ℕ) → number < heap.seats → (seat_at state number).place ≢ places.Idle → list_all (is_of number) (drop (book.begun number) book.history) ≡ true
+  pub noted : (number : ℕ) → number < heap.seats → FoundNow heap state.words book.history (seat_at state number) (seat_at state number).point
+  pub own : (number : ℕ) → number < heap.seats → (seat_at state number).point ≢ points.Idle → list_all (is_of number) (drop (book.begun number) book.history) ≡ true
 
 own_more : (number begun : ℕ) (before added : List Entry) → begun ≤ length before → list_all (is_of number) (drop begun before) ≡ true → list_all (is_of number) added ≡ true
     → list_all (is_of number) (drop begun (before ++ added)) ≡ true
@@ -40,8 +40,8 @@ pub other_seat_same_after_move : (heap : Heap) (state : State) (number r : ℕ) 
 other_seat_same_after_move heap state number r None apart = refl
 other_seat_same_after_move heap state number r (Some move) apart = get_or-set_other state.seats number r _ absent_seat apart
 
-busy : (heap : Heap) (number : ℕ) (seat : Seat) → IsSome (next_move heap number seat) → seat.place ≢ places.Idle
-busy heap number seat due idle = false≢true (subst (λ place. IsSome (move_at heap number seat place)) idle due)
+busy : (heap : Heap) (number : ℕ) (seat : Seat) → IsSome (next_move heap number seat) → seat.point ≢ points.Idle
+busy heap number seat due idle = false≢true (subst (λ point. IsSome (move_at heap number seat point)) idle due)
 
 -- some book stands for the state with this history, which plays on
 pub record PlaysNext (heap : Heap) (state : State) (before added : List Entry) : Type 0 where
@@ -52,23 +52,23 @@ pub record PlaysNext (heap : Heap) (state : State) (before added : List Entry) :
 -- where the others have no call in flight and stay, what the seat that goes on has told is enough
 own_alone : (heap : Heap) (state new : State) (now : Book) (number : ℕ) → IsAlone state number → length state.seats ≡ heap.seats
     → ((r : ℕ) → r ≢ number → seat_at new r ≡ seat_at state r) → list_all (is_of number) (drop (now.begun number) now.history) ≡ true
-    → (r : ℕ) → r < heap.seats → (seat_at new r).place ≢ places.Idle → list_all (is_of r) (drop (now.begun r) now.history) ≡ true
+    → (r : ℕ) → r < heap.seats → (seat_at new r).point ≢ points.Idle → list_all (is_of r) (drop (now.begun r) now.history) ≡ true
 own_alone heap state new now number alone all stay own r below active =
     elim (eqb_tells r number) as (λ _. list_all (is_of r) (drop (now.begun r) now.history) ≡ true) [
       | inl same ↦ subst (λ n. list_all (is_of n) (drop (now.begun n) now.history) ≡ true) (sym same.1) own
-      | inr apart ↦ absurd (active (ap (λ s. s.place) (stay r apart.1) ∙ alone r (rw all below) apart.1))
+      | inr apart ↦ absurd (active (ap (λ s. s.point) (stay r apart.1) ∙ alone r (rw all below) apart.1))
     ]
 
 -- so it is after the rule is kept, where what is added may stand in a play
 plays_next : {heap : Heap} {before new : State} {book : Book} {begun : ℕ → ℕ} {added : List Entry} (keeps : Keeps heap before new book begun added) → Stands heap new keeps.now → MayPlay heap book.history added → IsLegal heap true book.history
-    → ((r : ℕ) → r < heap.seats → FoundNow heap new.words (book.history ++ added) (seat_at new r) (seat_at new r).place)
-    → ((r : ℕ) → r < heap.seats → (seat_at new r).place ≢ places.Idle → list_all (is_of r) (drop (keeps.now.begun r) keeps.now.history) ≡ true) → PlaysNext heap new book.history added
+    → ((r : ℕ) → r < heap.seats → FoundNow heap new.words (book.history ++ added) (seat_at new r) (seat_at new r).point)
+    → ((r : ℕ) → r < heap.seats → (seat_at new r).point ≢ points.Idle → list_all (is_of r) (drop (keeps.now.begun r) keeps.now.history) ≡ true) → PlaysNext heap new book.history added
 plays_next {heap} {before} {new} {book} {begun} {added} keeps stands may legal noted own =
     let run : IsLegal heap false (book.history ++ added) = subst (IsLegal heap false) keeps.grown keeps.rule.heap_stands.legal in
     record {
       now = keeps.now;
       grown = keeps.grown;
-      plays = record { stands = stands; legal = subst (IsLegal heap true) (sym keeps.grown) (legal_play_grows heap book.history added may legal run); noted = λ r below. subst (λ es. FoundNow heap new.words es (seat_at new r) (seat_at new r).place) (sym keeps.grown) (noted r below); own = own };
+      plays = record { stands = stands; legal = subst (IsLegal heap true) (sym keeps.grown) (legal_play_grows heap book.history added may legal run); noted = λ r below. subst (λ es. FoundNow heap new.words es (seat_at new r) (seat_at new r).point) (sym keeps.grown) (noted r below); own = own };
     }
 
 step_plays : MachineStays → EachStepKeeps → (heap : Heap) (state : State) (book : Book) (number : ℕ) → PlaysOn heap state book → IsAlone state number → Can heap state (Steps number)
@@ -76,10 +76,10 @@ step_plays : MachineStays → EachStepKeeps → (heap : Heap) (state : State) (b
 step_plays stays steps heap state book number plays alone can =
     let here : number < heap.seats = stepping_seat_is_there heap state book number plays.stands.rule can in
     let here_seated : number < length state.seats = rw plays.stands.rule.machine.seated here in
-    let active : (seat_at state number).place ≢ places.Idle = busy heap number (seat_at state number) can in
+    let active : (seat_at state number).point ≢ points.Idle = busy heap number (seat_at state number) can in
     let keeps = steps heap state book number plays.stands.rule here (plays.stands.looks number here) (stays heap state (Steps number) plays.stands.rule.machine can) in
     let adds : AddsPlay heap book.history number (entries heap state (Steps number))
-    = adds_entries_of_play heap state book number plays.stands.rule here (plays.own number here active) (plays.noted number here) _ ((step_kind_of_each_place (seat_at state number).place).shows heap state number) in
+    = adds_entries_of_play heap state book number plays.stands.rule here (plays.own number here active) (plays.noted number here) _ ((step_kind_of_each_point (seat_at state number).point).shows heap state number) in
     let earlier : book.begun number ≤ length book.history = (plays.stands.rule.seats_stand number here).told.began.earlier in
     let own_now : list_all (is_of number) (drop (keeps.now.begun number) keeps.now.history) ≡ true
     = rw (keeps.calls, keeps.grown) (own_more number (book.begun number) book.history (entries heap state (Steps number)) earlier (plays.own number here active) adds.own) in
@@ -113,7 +113,7 @@ inner_plays stays inners heap state book number inner plays alone now can =
     = rw (keeps.calls, same, first) (nothing_since number book.history) in
     plays_next keeps (stands_after_inner_begin heap state book plays.stands number (rw (← plays.stands.rule.machine.seated) can.0) inner (begins number (length book.history) book.begun) can keeps) tt plays.legal
     (found_now_when_alone heap state (state_after heap state (BeginsInner number inner)) (book.history ++ []) number alone plays.stands.rule.machine.seated (λ r apart. get_or-set_other state.seats number r _ absent_seat apart)
-    (subst (λ (s : Seat). FoundNow heap state.words (book.history ++ []) s s.place) (sym (get_or-set_same state.seats number (after_inner_begin (seat_at state number) inner) absent_seat can.0)) (found_now_after_inner heap state (book.history ++ []) (after_inner_begin (seat_at state number) inner) inner now)))
+    (subst (λ (s : Seat). FoundNow heap state.words (book.history ++ []) s s.point) (sym (get_or-set_same state.seats number (after_inner_begin (seat_at state number) inner) absent_seat can.0)) (found_now_after_inner heap state (book.history ++ []) (after_inner_begin (seat_at state number) inner) inner now)))
     (own_alone heap state (state_after heap state (BeginsInner number inner)) keeps.now number alone plays.stands.rule.machine.seated
     (λ r apart. get_or-set_other state.seats number r _ absent_seat apart) own_now)
 

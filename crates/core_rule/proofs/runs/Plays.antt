@@ -69,7 +69,7 @@ keeps_space_of_plain heap before _ (saying number command reply plain) keeps = r
   shows = shows_same heap before number command reply plain keeps.shows;
 }
 
--- a seat that is noted is behind at that very place
+-- a seat that is noted is behind at that very position
 shows_behind : (heap : Heap) (before : List Entry) (number : ℕ) (command : Command) (other answer p : ℕ) → (command ≡ commands.Collect → IsBehind other answer p before)
     → ShowsPhases heap false before number command (replies.Waits other answer p) → ShowsPhases heap true before number command (replies.Waits other answer p)
 shows_behind heap before number commands.Collect other answer p behind shows = (shows.0, shows.1, shows.2, behind refl)
@@ -136,11 +136,11 @@ legal_play_grows heap before added may play run = record { objects = run.objects
         (subst (KeepsSpaceAfter heap false []) (sym (append_assoc before (entry ∷ []) rest)) run))
 
 -- where all entries are the seat's, the others did nothing, and nothing was freed
-others_nothing : (number : ℕ) (part : Effect → ℕ) (since : List Entry) → list_all (is_of number) since ≡ true → total_but number part since ≡ 0
-others_nothing number part [] own = refl
-others_nothing number part (entry ∷ since) own = rw (sum_by-cons (λ e. cond (is_of number e) 0 (part (effect_of e))) entry since) (by_test (is_of number entry) (list_all (is_of number) since) own (others_nothing number part since))
+others_nothing : (number : ℕ) (summand : Effect → ℕ) (since : List Entry) → list_all (is_of number) since ≡ true → total_but number summand since ≡ 0
+others_nothing number summand [] own = refl
+others_nothing number summand (entry ∷ since) own = rw (sum_by-cons (λ e. cond (is_of number e) 0 (summand (effect_of e))) entry since) (by_test (is_of number entry) (list_all (is_of number) since) own (others_nothing number summand since))
   where
-    by_test : (b rest : Bool) → (b && rest) ≡ true → (rest ≡ true → total_but number part since ≡ 0) → cond b 0 (part (effect_of entry)) + total_but number part since ≡ 0
+    by_test : (b rest : Bool) → (b && rest) ≡ true → (rest ≡ true → total_but number summand since ≡ 0) → cond b 0 (summand (effect_of entry)) + total_but number summand since ≡ 0
     by_test true rest both more = omega (arith, more both)
     by_test false rest both more = cc
 

@@ -22,7 +22,7 @@ use Rattle.core_rule.proofs.steps.TurnSteps.{MayEnd}
 -- each step of a seat keeps the rule, where what it has found for a collect is so
 abbrev pub EachStepKeeps : Type 0
 EachStepKeeps = (heap : Heap) (state : State) (book : Book) (number : ℕ) → Rule heap state book → number < heap.seats
-    → LooksStand heap book.history number (seat_at state number).place (seat_at state number).looks
+    → LooksStand heap book.history number (seat_at state number).point (seat_at state number).looks
     → IsMachine heap (state_after heap state (Steps number)) → Keeps heap state (state_after heap state (Steps number)) book book.begun (entries heap state (Steps number))
 
 -- so does each begin

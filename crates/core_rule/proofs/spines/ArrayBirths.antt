@@ -5,10 +5,10 @@ use Rattle.std.proofs.lemmas.Bool.Decides.{nat_tests}
 use Rattle.core_rule.proofs.Terms.{Heap, Stage, sum_upto, tally, fragment_at, SweepCounts, kept_weight, dead_weight, kept_sum, dead_sum, Owner, Kept, Dead}
 use Rattle.core_machine.specs.declared.collector.stage.Stage.TheVariants as stages
 use Rattle.core_machine.proofs.table_lemmas.Free.{sum_of_same_functions, sum_but_one_number}
-use Rattle.core_rule.proofs.lists.Members.{place_of, element_stands_at_place, place_of_element_is_place, element_is_tallied}
+use Rattle.core_rule.proofs.lists.Members.{position_of, element_stands_at_position, position_of_element_is_position, element_is_tallied}
 use Rattle.core_rule.proofs.owners.Keeping.{kept_by, kept_by_cases}
 
--- what isn't kept weighs nothing, nor what is no object's first part
+-- what isn't kept weighs nothing, nor what is no object's first fragment
 unkept_weight : (weight : ℕ → ℕ) (o : Owner) → ((i k : ℕ) → o ≢ Kept i k) → kept_weight weight o ≡ 0
 unkept_weight weight (Kept i k) none = absurd (none i k refl)
 unkept_weight weight _ none = refl
@@ -36,7 +36,7 @@ module _ (n : ℕ) (owner : ℕ → Owner) (body : List ℕ) (weight now_weight 
   kept_sum_after_birth heap some once inside unkept older =
       let head : ℕ = fragment_at body 0 in
       let there : 1 ≤ tally head body = element_is_tallied body 0 some in
-      let first : place_of head body ≡ 0 = place_of_element_is_place body 0 once some in
+      let first : position_of head body ≡ 0 = position_of_element_is_position body 0 once some in
       let sums = sum_but_one_number (16 * heap.groups) (λ f. kept_weight now_weight (now f)) (λ f. kept_weight weight (owner f)) head (inside head there) (λ f below apart. others f apart) in
       let whole : kept_weight now_weight (now head) ≡ now_weight n
       = kept_by_cases n body owner (λ o. kept_weight now_weight o ≡ now_weight n) head (λ is. rw first refl) (λ away. absurd (omega (arith, there, away))) in
@@ -44,7 +44,7 @@ module _ (n : ℕ) (owner : ℕ → Owner) (body : List ℕ) (weight now_weight 
     where
       others : (f : ℕ) → f ≢ fragment_at body 0 → kept_weight now_weight (now f) ≡ kept_weight weight (owner f)
       others f apart = kept_by_cases n body owner (λ o. kept_weight now_weight o ≡ kept_weight weight (owner f)) f
-          (λ there. later (place_of f body) (λ first. apart (sym (element_stands_at_place f body there).1 ∙ ap (fragment_at body) first)) ∙ sym (unkept_weight weight (owner f) (λ i k. unkept f i k there)))
+          (λ there. later (position_of f body) (λ first. apart (sym (element_stands_at_position f body there).1 ∙ ap (fragment_at body) first)) ∙ sym (unkept_weight weight (owner f) (λ i k. unkept f i k there)))
           (λ away. kept_weight_on (owner f) (older f))
         where
           later : (k : ℕ) → k ≢ 0 → kept_weight now_weight (Kept n k) ≡ 0
@@ -65,6 +65,6 @@ module _ (n : ℕ) (owner : ℕ → Owner) (body : List ℕ) (weight now_weight 
     group_born group m = sum_of_same_functions m (λ j. dead_weight now_weight (now (16 * group + j))) (λ j. dead_weight weight (owner (16 * group + j))) (λ j below. dead_stays undead older (16 * group + j))
 
     pub sweep_counts_after_birth : (stage : Stage) → SweepCounts weight owner stage → SweepCounts now_weight now stage
-    sweep_counts_after_birth (stages.Examining group dead place counted) is = is ∙ sym (group_born group place)
+    sweep_counts_after_birth (stages.Examining group dead position counted) is = is ∙ sym (group_born group position)
     sweep_counts_after_birth (stages.Freeing group dead counted) is = is ∙ sym (group_born group 16)
     sweep_counts_after_birth _ is = tt

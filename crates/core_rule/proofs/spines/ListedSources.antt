@@ -16,13 +16,13 @@ use Rattle.core_machine.specs.collector.FitsTurns.{FitsStage}
 use Rattle.core_machine.specs.declared.collector.stage.Copying.TheVariants as copying
 use Rattle.core_machine.specs.declared.collector.stage.SpineCopy.{SpineCopy}
 use Rattle.core_machine.specs.declared.collector.stage.Stage.TheVariants as stages
-use Rattle.core_machine.specs.declared.place.Place.TheVariants as places
+use Rattle.core_machine.specs.declared.point.Point.TheVariants as points
 use Rattle.core_rule.proofs.colours.LeadsFrames.{SameSources, led_before_where_same}
 use Rattle.core_rule.proofs.colours.NoSpines.{newborn_tells_no_spine}
 use Rattle.core_rule.proofs.entries.AtRest.{seat_fits}
 use Rattle.core_rule.proofs.frames.BesideFrames.{LeavesBeside, leaves_beside_spine_word, ArraysStay}
 use Rattle.core_rule.proofs.held.BodyWords.{bearing_has_stored_all}
-use Rattle.core_rule.proofs.lists.Members.{place_of, element_stands_at_place}
+use Rattle.core_rule.proofs.lists.Members.{position_of, element_stands_at_position}
 use Rattle.core_rule.proofs.marking.KeptSources.{same_sources_of_kept}
 use Rattle.core_rule.proofs.marking.Marks.{marking_is_not_settled}
 use Rattle.core_rule.proofs.objects.LastBirth.{all_words_are_stored}
@@ -83,18 +83,18 @@ dead_is_white heap state book rule f i k dead = elim (settled_or_not state.colle
   | inr going ↦ absurd (rule.marks_stand.heap_marks.alive going f i k dead)
 ]
 
-module _ (heap : Heap) (state : State) (book : Book) (rule : Rule heap state book) (number : ℕ) (here : number < heap.seats) (place : (seat_at state number).place ≡ places.Making Listing) (n : ℕ) where
+module _ (heap : Heap) (state : State) (book : Book) (rule : Rule heap state book) (number : ℕ) (here : number < heap.seats) (point : (seat_at state number).point ≡ points.Making Listing) (n : ℕ) where
   abbrev seat : Seat
   seat = seat_at state number
 
   fits : HasArrayBody seat × (seat.listed < spine_need seat)
-  fits = rw place at (seat_fits rule number here).at_place
+  fits = rw point at (seat_fits rule number here).at_point
 
   stands : SeatStands heap state.words book number seat
   stands = rule.seats_stand number here
 
-  pub listing_has_place : HasPlace seat seat.place
-  listing_has_place = subst (HasPlace seat) (sym place) fits.0.1
+  pub listing_has_place : HasPlace seat seat.point
+  listing_has_place = subst (HasPlace seat) (sym point) fits.0.1
 
   small : seat.spine.half < 2
   small = (seat_fits rule number here).hand.spine_within.half_within
@@ -164,9 +164,9 @@ module _ (heap : Heap) (state : State) (book : Book) (rule : Rule heap state boo
       let there = borne_is_in_seat_body heap state book rule r f bears in
       let other : Seat = seat_at state r in
       let other_fits : Fits heap other = seat_fits rule r there.0 in
-      let its = bearing_has_stored_all heap state book rule r f bears other.place other_fits.at_place in
-      let at_body = element_stands_at_place f other.body there.1 in
-      let k : ℕ = place_of f other.body in
+      let its = bearing_has_stored_all heap state book rule r f bears other.point other_fits.at_point in
+      let at_body = element_stands_at_position f other.body there.1 in
+      let k : ℕ = position_of f other.body in
       let stored = all_words_are_stored heap state.words other.body (newborn_word_of r other) other.stored its.1 (rule.seats_stand r there.0).own.stored in
       let within : f < 16 * heap.groups = subst (λ x. x < 16 * heap.groups) at_body.1 (other_fits.hand.body_within k 0 at_body.0) in
       record {

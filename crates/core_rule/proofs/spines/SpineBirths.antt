@@ -67,7 +67,7 @@ module _ (number n : ℕ) where
   gone_stays_at_birth o is = ap (born_word number n) is
 
 -- and the seat has none
-pub spine_in_hand_after_birth : (heap : Heap) (words : List ℕ) (spine_owner : ℕ → ℕ → SpineOwner) (number n : ℕ) (new : Seat) → ¬ HasPlace new new.place
+pub spine_in_hand_after_birth : (heap : Heap) (words : List ℕ) (spine_owner : ℕ → ℕ → SpineOwner) (number n : ℕ) (new : Seat) → ¬ HasPlace new new.point
     → SpineInHand heap words (born_words number n spine_owner) number new
 spine_in_hand_after_birth heap words spine_owner number n new none = record {
   placed = λ has. absurd (none has);
@@ -85,7 +85,7 @@ module _ (n : ℕ) (nodes now_nodes : ℕ → Node) (owner : ℕ → Owner) (fra
 
   module _ (heap : Heap) (words now_words : List ℕ) (seats : ℕ) (spines : ℕ → Spot) (spine_owner : ℕ → ℕ → SpineOwner) (number : ℕ) (seat : Seat)
       (leaves : LeavesSpines heap words now_words) (hand : SpineInHand heap words spine_owner number seat) (as_many : spine_words_of (now_nodes n) ≡ spine_need seat)
-      (has : 0 < spine_need seat → HasPlace seat seat.place) (head : now (fragment_at body 0) ≡ Kept n 0) (dead : DeadStay heap words now_words owner now) where
+      (has : 0 < spine_need seat → HasPlace seat seat.point) (head : now (fragment_at body 0) ≡ Kept n 0) (dead : DeadStay heap words now_words owner now) where
     head_new : IsKept now bodies n
     head_new = ap (λ fs. now (fragment_at fs 0)) (new_object_has_body fragments n body) ∙ head
 

@@ -1,7 +1,7 @@
 -- Whose the spine words are, and what they are, stands as before where a step leaves them.
 use Rattle.std.proofs.Common.{true, ◌≡◌, ℕ, ◌+◌, ◌<◌, ◌⊎◌, inl, inr, List, length, refl, sym, ap, ◌∙◌, subst}
 use Rattle.heap_words.specs.declared.spot.Spot.{Spot}
-use Rattle.core_rule.proofs.Terms.{Heap, Id, Node, spine_words_of, Place, Seat, spine_need, at, spine_place, spine_word, fragment_at, IsKept, Owner, Kept, SpineOwner, Placed, Gone}
+use Rattle.core_rule.proofs.Terms.{Heap, Id, Node, spine_words_of, Point, Seat, spine_need, at, spine_place, spine_word, fragment_at, IsKept, Owner, Kept, SpineOwner, Placed, Gone}
 use Rattle.core_rule.proofs.Terms.{AddressStands, IsLeftReplica, SpinesStand, SpineInHand, HasPlace, WayStands}
 use Rattle.core_machine.specs.declared.table.address.Address.TheVariants as addresses
 use Rattle.core_rule.proofs.graph.SameNodes.{SameShape, same_shape_same_words, same_shape_of_equal}
@@ -54,7 +54,7 @@ module _ (heap : Heap) (words now : List ℕ) (leaves : LeavesSpines heap words 
 
 -- what a seat has stored of its spine is there
 abbrev pub SpineIsStored : Heap → List ℕ → Seat → Type 0
-SpineIsStored heap words seat = HasPlace seat seat.place → (j : ℕ) → j < seat.listed → at heap words (spine_place seat.spine j) ≡ spine_word (fragment_at seat.body (j + 1))
+SpineIsStored heap words seat = HasPlace seat seat.point → (j : ℕ) → j < seat.listed → at heap words (spine_place seat.spine j) ≡ spine_word (fragment_at seat.body (j + 1))
 
 pub spine_is_stored_by_words : (heap : Heap) (words now : List ℕ) (seat : Seat) → SameSpines heap words now → SpineIsStored heap words seat → SpineIsStored heap now seat
 spine_is_stored_by_words heap words now seat same stored = λ has j less. same _ _ ∙ stored has j less
@@ -86,7 +86,7 @@ spine_in_hand_with_words heap words now spine_owner number seat leaves hand =
     spine_in_hand_stays heap words now spine_owner spine_owner number seat (spines_left_of_itself number spine_owner) (spine_is_stored_still heap words now seat leaves hand.stored) hand
 
 -- a seat that has no spine goes on where it has none
-pub spine_in_hand_away : (heap : Heap) (words now : List ℕ) (spine_owner : ℕ → ℕ → SpineOwner) (number : ℕ) (old new : Seat) → ¬ HasPlace old old.place → ¬ HasPlace new new.place
+pub spine_in_hand_away : (heap : Heap) (words now : List ℕ) (spine_owner : ℕ → ℕ → SpineOwner) (number : ℕ) (old new : Seat) → ¬ HasPlace old old.point → ¬ HasPlace new new.point
     → SpineInHand heap words spine_owner number old → SpineInHand heap now spine_owner number new
 spine_in_hand_away heap words now spine_owner number old new before after hand = record {
   placed = λ has. absurd (after has);
@@ -96,8 +96,8 @@ spine_in_hand_away heap words now spine_owner number old new before after hand =
 
 -- its spine is the one that it had, of as many words, of which as many are stored, for the same fragments
 pub record SameSpine (old new : Seat) : Type 0 where
-  pub has : HasPlace new new.place → HasPlace old old.place
-  pub had : HasPlace old old.place → HasPlace new new.place
+  pub has : HasPlace new new.point → HasPlace old old.point
+  pub had : HasPlace old old.point → HasPlace new new.point
   pub need : spine_need new ≡ spine_need old
   pub spine : new.spine ≡ old.spine
   pub listed : new.listed ≡ old.listed
@@ -141,10 +141,10 @@ module _ (heap : Heap) (words now_words : List ℕ) (nodes now_nodes : ℕ → N
 
   -- the place that a call has loaded is the array's, or one that this has left, also where kept objects went on
   pub address_stands_still : ((i : ℕ) → i < length made → IsKept owner fragments i → ObjectStays nodes now_nodes made now_made owner now_owner fragments now_fragments i)
-      → (seat : Seat) (place : Place) → WayStands nodes made owner fragments seat place
-      → AddressStands heap words nodes owner fragments spines was seat place → AddressStands heap now_words now_nodes now_owner now_fragments now_spines now seat place
-  address_stands_still stay seat place stands = while_loaded_goes_on place (λ has reads i f calls is an_array.
-      let on = loaded_is_on_way nodes made owner fragments seat place has stands in
+      → (seat : Seat) (point : Point) → WayStands nodes made owner fragments seat point
+      → AddressStands heap words nodes owner fragments spines was seat point → AddressStands heap now_words now_nodes now_owner now_fragments now_spines now seat point
+  address_stands_still stay seat point stands = while_loaded_goes_on point (λ has reads i f calls is an_array.
+      let on = loaded_is_on_way nodes made owner fragments seat point has stands in
       let one = stay on.index on.way.below on.way.kept in
       let head : f ≡ fragment_at (fragments on.index) 0 = called_register_is_first made owner fragments seat on.index on.row f on.way calls in
       let same : now_owner f ≡ Kept on.index 0 = ap now_owner head ∙ ap (λ fs. now_owner (fragment_at fs 0)) (sym one.fragments_stay) ∙ one.kept in
@@ -158,8 +158,8 @@ module _ (heap : Heap) (words now_words : List ℕ) (nodes now_nodes : ℕ → N
 
 -- so it is where no more than words change
 pub address_stands_with_words : (heap : Heap) (words now : List ℕ) → SameSpines heap words now → (nodes : ℕ → Node) (owner : ℕ → Owner) (fragments : ℕ → List ℕ) (spines : ℕ → Spot) (spine_owner : ℕ → ℕ → SpineOwner)
-    (seat : Seat) (place : Place) → AddressStands heap words nodes owner fragments spines spine_owner seat place → AddressStands heap now nodes owner fragments spines spine_owner seat place
-address_stands_with_words heap words now same nodes owner fragments spines spine_owner seat place = while_loaded_goes_on place (λ has reads i f calls is an_array.
+    (seat : Seat) (point : Point) → AddressStands heap words nodes owner fragments spines spine_owner seat point → AddressStands heap now nodes owner fragments spines spine_owner seat point
+address_stands_with_words heap words now same nodes owner fragments spines spine_owner seat point = while_loaded_goes_on point (λ has reads i f calls is an_array.
     elim (reads i f calls is an_array) as (λ _. (seat.address ≡ spines i) ⊎ IsLeftReplica heap now (nodes i) (fragments i) spine_owner seat.answered seat.address) [
       | inl own ↦ inl own
       | inr left ↦ inr record { late = left.late; left = left.left; listed = λ k less. same _ _ ∙ left.listed k less }

@@ -17,7 +17,7 @@ placed_unspined : (o : SpineOwner) (number j i k : ℕ) → o ≡ Placed number 
 placed_unspined o number j i k here there = absurd (cc (here, there))
 
 module _ (heap : Heap) (words : List ℕ) (spine_owner : ℕ → ℕ → SpineOwner) (number : ℕ) (seat : Seat) (hand : SpineInHand heap words spine_owner number seat)
-    (has : HasPlace seat seat.place) (more : seat.listed < spine_need seat) (small : seat.spine.half < 2) (n : ℕ) where
+    (has : HasPlace seat seat.point) (more : seat.listed < spine_need seat) (small : seat.spine.half < 2) (n : ℕ) where
   abbrev pub words_listed : List ℕ
   words_listed = put heap words (spine_place seat.spine seat.listed) n
 
@@ -36,7 +36,7 @@ module _ (heap : Heap) (words : List ℕ) (spine_owner : ℕ → ℕ → SpineOw
   unlisted_word_same_after_listing half offset within apart = other_word half offset within (λ a b. apart (ap (λ h. spine_owner h offset) a ∙ ap (λ o. spine_owner seat.spine.half o) b ∙ mine))
 
   -- what another seat has stored of its spine
-  pub others_spine_is_stored : (r : ℕ) (other : Seat) → r ≢ number → SpineInHand heap words spine_owner r other → other.spine.half < 2 → (HasPlace other other.place → other.listed ≤ spine_need other)
+  pub others_spine_is_stored : (r : ℕ) (other : Seat) → r ≢ number → SpineInHand heap words spine_owner r other → other.spine.half < 2 → (HasPlace other other.point → other.listed ≤ spine_need other)
       → SpineIsStored heap words_listed other
   others_spine_is_stored r other apart theirs within few placed j less =
       let its = theirs.placed placed j (omega (arith, less, few placed)) in
@@ -59,7 +59,7 @@ module _ (heap : Heap) (words : List ℕ) (spine_owner : ℕ → ℕ → SpineOw
 
   -- the seat has stored one more
   pub spine_in_hand_after_listing : (new : Seat) → length words ≡ table_length heap → seat.spine.offset + seat.listed < 2 * heap.spine → n ≡ spine_word (fragment_at seat.body (seat.listed + 1))
-      → HasPlace new new.place → spine_need new ≡ spine_need seat → new.spine ≡ seat.spine → new.body ≡ seat.body → new.listed ≡ seat.listed + 1
+      → HasPlace new new.point → spine_need new ≡ spine_need seat → new.spine ≡ seat.spine → new.body ≡ seat.body → new.listed ≡ seat.listed + 1
       → SpineInHand heap words_listed spine_owner number new
   spine_in_hand_after_listing new table inside is new_has need spine body listed = record {
     placed = λ placed. rw (need, spine) (hand.placed has);

@@ -111,13 +111,13 @@ module _ (heap : Heap) (state : State) (book : Book) (number need : ℕ) (table 
   same_spines_after_spot_claim = same_spines_elsewhere heap state.words _ addresses.Spot (omega arith)
 
   -- the party has exactly these words then
-  pub spine_in_hand_after_claim : (old new : Seat) → ¬ HasPlace old old.place → HasPlace new new.place → spine_need new ≡ need → new.spine ≡ spot → new.listed ≡ 0
+  pub spine_in_hand_after_claim : (old new : Seat) → ¬ HasPlace old old.point → HasPlace new new.point → spine_need new ≡ need → new.spine ≡ spot → new.listed ≡ 0
       → SpineInHand heap state.words book.spine_owner number old → SpineInHand heap words_claimed owner_claimed number new
   spine_in_hand_after_claim old new before has same there none hand = record {
     placed = λ placed j less. rw there (claimed_is_placed number spot need book.spine_owner j (subst (λ n. j < n) same less));
-    own = λ half offset j. claim_cases number spot need book.spine_owner (λ o. o ≡ Placed number j → HasPlace new new.place × (j < spine_need new) × IsWordOf new.spine half offset j) half offset
-        (λ is e. let place : offset - spot.offset ≡ j = cc in
-        (has, rw same (omega (arith, place, is.from, is.upto)), rw there record { half_is = is.half_is; offset_is = omega (arith, place, is.from) }))
+    own = λ half offset j. claim_cases number spot need book.spine_owner (λ o. o ≡ Placed number j → HasPlace new new.point × (j < spine_need new) × IsWordOf new.spine half offset j) half offset
+        (λ is e. let position : offset - spot.offset ≡ j = cc in
+        (has, rw same (omega (arith, position, is.from, is.upto)), rw there record { half_is = is.half_is; offset_is = omega (arith, position, is.from) }))
         (λ away e. absurd (before (hand.own half offset j e).0));
     stored = λ placed j less. absurd (omega (arith, less, none));
   }

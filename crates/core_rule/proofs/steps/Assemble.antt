@@ -2,10 +2,10 @@
 use Rattle.std.proofs.Common.{◌≡◌, ◌≢◌, ℕ, ◌<◌, ◌≤◌, List, ap, arith, [], ◌++◌, length, filter, slice_set, slice_index_or, refl, sym, false, ◌∙◌, subst, inl, inr}
 use Rattle.std.proofs.lemmas.List.{append-nil}
 use Rattle.std.proofs.lemmas.List.Elements.{filter-append}
-use Rattle.core_rule.proofs.Terms.{Entry, Heap, graph_of, graph_seat, phase, last_answer, has_left, Place, Collector, Move, State, seat_at, state_after_move, found_by, Seat}
+use Rattle.core_rule.proofs.Terms.{Entry, Heap, graph_of, graph_seat, phase, last_answer, has_left, Point, Collector, Move, State, seat_at, state_after_move, found_by, Seat}
 use Rattle.core_rule.proofs.Terms.{absent_seat, IsMachine, Book, IsMarked, CollectorAgrees, IsReached, Rule, HeapStands, SeatStands, MarksStand, SpaceStands}
-use Rattle.core_machine.specs.declared.place.Making.{Making}
-use Rattle.core_machine.specs.declared.place.Place.TheVariants as places
+use Rattle.core_machine.specs.declared.point.Making.{Making}
+use Rattle.core_machine.specs.declared.point.Point.TheVariants as points
 use Rattle.core_rule.specs.counts.Counts.{is_collectors}
 use Rattle.core_rule.specs.roots.Roots.{RootsAreReached}
 pub use Rattle.core_rule.proofs.entries.AtRest.{seat_fits, in_flight_has_not_left}
@@ -52,11 +52,11 @@ pub record Keeps (heap : Heap) (before state : State) (book : Book) (begun : ℕ
   pub rule : Rule heap state now
   pub goes : BookGoesOn heap before book now
 
--- a book that has grown by them keeps it where each part stands for it
-pub keeps_rule_by_parts : {heap : Heap} {before state : State} {book : Book} {added : List Entry} (now : Book) → now.history ≡ book.history ++ added → IsMachine heap state → HeapStands heap state.words now
+-- a book that has grown by them keeps it where each conjunct stands for it
+pub keeps_rule_by_conjuncts : {heap : Heap} {before state : State} {book : Book} {added : List Entry} (now : Book) → now.history ≡ book.history ++ added → IsMachine heap state → HeapStands heap state.words now
     → ((r : ℕ) → r < heap.seats → SeatStands heap state.words now r (seat_at state r)) → CollectorAgrees heap state.collector now.history
     → MarksStand heap state now.owner now.colour now.fragments → SpaceStands heap state now → BookGoesOn heap before book now → Keeps heap before state book now.begun added
-keeps_rule_by_parts now grown machine heap_stands seats collector marks space goes = record {
+keeps_rule_by_conjuncts now grown machine heap_stands seats collector marks space goes = record {
   now = now;
   grown = grown;
   calls = refl;
@@ -69,17 +69,17 @@ abbrev pub MoveKeeps : Heap → State → Book → ℕ → Move → Type 0
 MoveKeeps heap state book number move = IsMachine heap (state_after_move heap state number move)
     → Keeps heap state (state_after_move heap state number move) book book.begun (move.shows state.words (found_by heap state move.step))
 
--- so does the move that is due to any seat at this place
-abbrev pub StepKeeps : Place → (Heap → ℕ → Seat → Move) → Type 0
-StepKeeps place move = (heap : Heap) (state : State) (book : Book) (number : ℕ) → Rule heap state book → number < heap.seats
-    → (seat_at state number).place ≡ place → MoveKeeps heap state book number (move heap number (seat_at state number))
+-- so does the move that is due to any seat at this point
+abbrev pub StepKeeps : Point → (Heap → ℕ → Seat → Move) → Type 0
+StepKeeps point move = (heap : Heap) (state : State) (book : Book) (number : ℕ) → Rule heap state book → number < heap.seats
+    → (seat_at state number).point ≡ point → MoveKeeps heap state book number (move heap number (seat_at state number))
 
 -- a seat that makes an object hasn't left
 pub making_seat_has_not_left : (heap : Heap) (state : State) (book : Book) (number : ℕ) (making : Making) → Rule heap state book → number < heap.seats
-    → (seat_at state number).place ≡ places.Making making → (graph_seat (graph_of heap book.history) number).left ≡ false
-making_seat_has_not_left heap state book number making rule here placed =
+    → (seat_at state number).point ≡ points.Making making → (graph_seat (graph_of heap book.history) number).left ≡ false
+making_seat_has_not_left heap state book number making rule here point_is =
     let stands = rule.seats_stand number here in
-    stands.told.counts.leaves ∙ in_flight_has_not_left rule number here (λ idle. absurd (cc (placed, idle)))
+    stands.told.counts.leaves ∙ in_flight_has_not_left rule number here (λ idle. absurd (cc (point_is, idle)))
 
 -- the spine space stands as before after a seat's step that asks for no spine words and gives none, and marks no less
 pub space_stands_after_step : (heap : Heap) (state : State) (book : Book) (number : ℕ) → Rule heap state book → number < heap.seats → (words : List ℕ) (seat : Seat) (now : Book)
@@ -102,7 +102,7 @@ keeps_rule_after_step heap state book number words seat now added rule here mach
     let stand : (r : ℕ) → r < heap.seats → SeatStands heap words now r (slice_index_or (slice_set state.seats number seat) r absent_seat)
     = λ r below. holds_of_each_seat (λ n s. SeatStands heap words now n s) state.seats number seat (subst (λ n. number < n) (sym rule.machine.seated) here) self r
     (λ apart. others r below apart (rule.seats_stand r below)) in
-    keeps_rule_by_parts now grown machine heap_after stand (collector_stays heap state.collector book.history added now.history grown none
+    keeps_rule_by_conjuncts now grown machine heap_after stand (collector_stays heap state.collector book.history added now.history grown none
     (λ r below present. last_answer_within_phase heap words now r (slice_index_or (slice_set state.seats number seat) r absent_seat) (stand r below) present) rule.collector_stands)
     record {
       heap_marks = marks.heap_on;

@@ -6,7 +6,7 @@ use Rattle.heap_model.specs.declared.entry.Entry.TheVariants as entries
 use Rattle.heap_model.specs.Command.{IsCommand}
 use Rattle.core_machine.specs.declared.table.address.Address.{Address}
 use Rattle.core_machine.specs.declared.table.address.Address.TheVariants.{Answer}
-use Rattle.core_machine.specs.declared.place.Place.TheVariants as places
+use Rattle.core_machine.specs.declared.point.Point.TheVariants as points
 use Rattle.core_machine.proofs.table_lemmas.Addresses.{put_of_read_changes_nothing}
 use Rattle.core_rule.proofs.frames.SeatFrames.{with_entry}
 use Rattle.core_rule.proofs.colours.SpineStays.{same_sources_of_itself}
@@ -29,7 +29,7 @@ load_leaves heap book words a = rw (put_of_read_changes_nothing heap words a) re
 
 -- the seat stands idle and has told the reply; of its own data its registers alone are others
 pub record SeatTells (old now : Seat) (entry : Entry) : Type 0 where
-  pub idle : now.place ≡ places.Idle
+  pub idle : now.point ≡ points.Idle
   pub reserve : now.reserve ≡ old.reserve
   pub mine : now.mine ≡ old.mine ++ entry ∷ []
   pub answered : now.answered ≡ old.answered
@@ -41,7 +41,7 @@ pub record SeatTells (old now : Seat) (entry : Entry) : Type 0 where
 -- a load at which such a reply stands keeps the rule
 pub keeps_rule_by_local_reply : (heap : Heap) (state : State) (book : Book) (number : ℕ) (a : Address) (now : Seat) (reply : Reply) → (rule : Rule heap state book) → (here : number < heap.seats)
     → IsMachine heap (record state { words = put heap state.words a (at heap state.words a); seats = slice_set state.seats number now })
-    → MakesNone (seat_at state number).place → IsAtRest (seat_at state number) → (seat_at state number).mine ≡ filter (is_of number) book.history → (graph_seat (graph_of heap book.history) number).left ≡ false → IsCommand (seat_at state number).command
+    → MakesNone (seat_at state number).point → IsAtRest (seat_at state number) → (seat_at state number).mine ≡ filter (is_of number) book.history → (graph_seat (graph_of heap book.history) number).left ≡ false → IsCommand (seat_at state number).command
     → IsLocalReply heap book.history (graph_of heap book.history) number book.made book.owner book.fragments (seat_at state number).command reply now.registers
     → is_leave_of number (entries.Said number (seat_at state number).command reply) ≡ false
     → SeatTells (seat_at state number) now (entries.Said number (seat_at state number).command reply)

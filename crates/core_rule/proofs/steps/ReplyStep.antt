@@ -6,7 +6,7 @@ use Rattle.core_rule.proofs.Terms.{taken_of, spent_of, Graph, opening, Fits, IsA
 use Rattle.core_rule.proofs.Terms.{AreMade, Objects, node_at, Rule, OwnStands, NamesStand, ToldStands, dead_bit}
 use Rattle.heap_model.specs.declared.entry.Entry.TheVariants as entries
 use Rattle.heap_model.proofs.Histories.{graph_after-more}
-use Rattle.core_machine.specs.declared.place.Place.TheVariants as places
+use Rattle.core_machine.specs.declared.point.Point.TheVariants as points
 use Rattle.core_rule.specs.graph.Registers as regs
 use Rattle.core_rule.proofs.marking.Marks.{MarksGoOn}
 use Rattle.core_rule.proofs.steps.Assemble.{Keeps, seat_fits, keeps_rule_after_step, space_stands_after_step}
@@ -50,7 +50,7 @@ graph_replies_of_registers g now number changes heap words book ids objects = re
 
 -- the seat stands idle, has told the reply, and what it has is the graph's
 pub record SeatReplies (book : Book) (g : Graph) (number : ℕ) (old now : Seat) (entry : Entry) : Type 0 where
-  pub idle : now.place ≡ places.Idle
+  pub idle : now.point ≡ points.Idle
   pub reserve : now.reserve ≡ old.reserve
   pub mine : now.mine ≡ old.mine ++ entry ∷ []
   pub made : now.made ≡ length (graph_seat g number).objects
@@ -84,7 +84,7 @@ module _ (heap : Heap) (state : State) (book : Book) (number : ℕ) (words : Lis
       let below : number < length state.seats = rw rule.machine.seated here in
       subst (Fits heap) (get_or-set_same state.seats number now absent_seat below) (machine.fit number (rw (length-set state.seats number now) below))
 
-  -- the rule is kept where the heap, the seat and the others have their parts in the cycle, and marking goes on
+  -- the rule is kept where the heap, the seat and the others have their standing in the cycle, and marking goes on
   abbrev KeepsInCycle : Type 0
   KeepsInCycle = HeapInCycle heap words (phase book.history) book.owner book.colour book.fragments
       → SeatInCycle heap words (phase later.history) (last_answer number later.history) (has_left number later.history) book.owner book.colour number now
@@ -116,7 +116,7 @@ module _ (heap : Heap) (state : State) (book : Book) (number : ℕ) (words : Lis
       (λ r below apart other. seat_stands_with_entry heap state.words words book entry r (seat_at state r) (seat_is_not_other number r apart)
       (rw graph (grows.others r apart))
       (rw graph grows.shapes)
-      (is_stored_still heap book.owner state.words words r (seat_at state r) same other.own.holding (stored_within_body heap (seat_at state r) (seat_at state r).place (seat_fits rule r below).at_place) other.own.stored)
+      (is_stored_still heap book.owner state.words words r (seat_at state r) same other.own.holding (stored_within_body heap (seat_at state r) (seat_at state r).point (seat_fits rule r below).at_point) other.own.stored)
       same.spines.spines
       (seat_in_cycle_after_other heap words book.owner book.colour book.history entry refl r (seat_at state r)
       (seat_in_cycle_stays heap state.words words book.owner book.owner book.colour book.colour (phase book.history) (last_answer r book.history) (has_left r book.history) r (seat_at state r)
@@ -128,21 +128,21 @@ module _ (heap : Heap) (state : State) (book : Book) (number : ℕ) (words : Lis
       (book_goes_on_with_history heap state book later.history book.begun)
 
   -- the seat stands idle then
-  pub keeps_in_cycle_when_idle : made_by command reply ≡ 0 → MakesNone seat.place → IsAtRest seat → seat.mine ≡ filter (is_of number) book.history → IsLegal heap false later.history
+  pub keeps_in_cycle_when_idle : made_by command reply ≡ 0 → MakesNone seat.point → IsAtRest seat → seat.mine ≡ filter (is_of number) book.history → IsLegal heap false later.history
       → SameUnkept heap book.owner state.words words → GraphReplies heap words book before after number → SeatReplies book after number seat now entry
       → KeepsInCycle
   keeps_in_cycle_when_idle none makes rest told legal same grows replies heap_cycle cycle leaves marks =
       let stands = rule.seats_stand number here in
-      let idle : IsAtRest now = rw replies.idle at fit_after.at_place in
+      let idle : IsAtRest now = rw replies.idle at fit_after.at_point in
       let own = reserve_and_spent_is_taken heap state book number rule here rest in
-      let ends : MakesNone now.place = rw replies.idle tt in
+      let ends : MakesNone now.point = rw replies.idle tt in
       keeps_in_cycle_when_told legal same grows (same_weights_where_none_made seat now makes ends) (no_words_by_reply command reply none)
       record {
         holding = holding_of_equal_hand book.owner number seat.reserve seat.hand seat.body now.reserve now.hand now.body replies.reserve
             (idle.empty_hand ∙ sym rest.empty_hand) (idle.no_body ∙ sym rest.no_body) stands.own.holding;
         stored = is_stored_where_none heap words number now idle.none_stored;
         together = together_where_empty heap now.cursor now.tried now.hand now.body idle.empty_hand idle.no_body;
-        spine = spine_in_hand_away heap state.words words book.spine_owner number seat now (no_place_where_none_made seat seat.place makes) (no_place_where_none_made now now.place ends) stands.own.spine;
+        spine = spine_in_hand_away heap state.words words book.spine_owner number seat now (no_place_where_none_made seat seat.point makes) (no_place_where_none_made now now.point ends) stands.own.spine;
       }
       record { registers = λ i awake. replies.registers i; way = rw replies.idle tt; address = rw replies.idle tt }
       record {
@@ -158,7 +158,7 @@ module _ (heap : Heap) (state : State) (book : Book) (number : ℕ) (words : Lis
           unborn = bare_unborn_holds_reserve seat.reserve now.reserve now.hand now.body (spent_of number later.history) (taken_of number later.history) replies.reserve idle.empty_hand idle.no_body
               (omega (arith, own, taken_stays_by_said book.history number command reply none, spent_stays_by_said book.history number command reply none));
         };
-        began = rw replies.idle (began_idle_after_reply book.history entry number (book.begun number) seat.place stands.told.began);
+        began = rw replies.idle (began_idle_after_reply book.history entry number (book.begun number) seat.point stands.told.began);
         gathers = gathers_right_unbegun heap book.owner number (drop (book.begun number) later.history) now.cursor now.tried now.given idle.none_tried idle.none_given;
         used = rw replies.idle tt;
       }

@@ -1,4 +1,4 @@
--- Each step and each begin of a seat keeps the rule, by the place of its call, and so does each turn of the collector.
+-- Each step and each begin of a seat keeps the rule, by the point of its call, and so does each turn of the collector.
 use Rattle.std.proofs.Common.{ℕ, ◌<◌, [], length, refl}
 use Rattle.core_rule.proofs.Terms.{Command, Heap, State, seat_at, state_after, Begins, Can, IsMachine, Book, Rule}
 use Rattle.heap_model.specs.declared.command.Command.TheVariants as commands
@@ -8,11 +8,11 @@ use Rattle.core_rule.proofs.runs.Runs.{EachStepKeeps, EachBeginKeeps, EachInnerK
 use Rattle.core_rule.proofs.steps.access
 use Rattle.core_rule.proofs.steps.collecting
 use Rattle.core_rule.proofs.steps.collector.{turn_kind_of_each_stage}
-use Rattle.core_rule.proofs.steps.Seats.{step_kind_of_each_place}
+use Rattle.core_rule.proofs.steps.Seats.{step_kind_of_each_point}
 use Rattle.core_rule.proofs.steps.making
 
 pub each_step_keeps : EachStepKeeps
-each_step_keeps heap state book number rule here looks machine = (step_kind_of_each_place (seat_at state number).place).keeps heap state book number rule here looks refl machine
+each_step_keeps heap state book number rule here looks machine = (step_kind_of_each_point (seat_at state number).point).keeps heap state book number rule here looks refl machine
 
 -- so does the begin of a call
 begins_at : (heap : Heap) (state : State) (book : Book) (number : ℕ) (command : Command) → Rule heap state book → number < heap.seats → Can heap state (Begins number command)

@@ -12,7 +12,7 @@ use Rattle.core_rule.proofs.budgets.BudgetSteps.{budgets_stand_with_log}
 use Rattle.core_rule.proofs.budgets.BudgetFrames.{SameGrants, same_grants_recoloured}
 use Rattle.core_rule.proofs.halves.HalvesFrames.{StageGoesOn, budgets_stand_after_turn, halves_stand_after_turn}
 use Rattle.core_rule.proofs.spines.OtherWords.{LeavesSpines, leaves_spines_of_itself}
-use Rattle.core_rule.proofs.steps.Assemble.{Keeps, keeps_rule_by_parts}
+use Rattle.core_rule.proofs.steps.Assemble.{Keeps, keeps_rule_by_conjuncts}
 
 -- a turn of the collector keeps the rule
 abbrev pub TurnKeeps : Heap → State → Book → TurnMove → Type 0
@@ -46,7 +46,7 @@ pub keeps_rule_after_turn : (heap : Heap) (state : State) (book : Book) (words :
     → CollectorAgrees heap collector now.history → MarksStand heap (after_turn state words collector) now.owner now.colour now.fragments
     → SpaceStands heap (after_turn state words collector) now → BookGoesOn heap state book now → Keeps heap state (after_turn state words collector) book now.begun added
 keeps_rule_after_turn heap state book words collector now added rule machine grown heap_after seats collector_after marks space goes =
-    keeps_rule_by_parts now grown machine heap_after (λ r below. seats r below (rule.seats_stand r below)) collector_after marks space goes
+    keeps_rule_by_conjuncts now grown machine heap_after (λ r below. seats r below (rule.seats_stand r below)) collector_after marks space goes
 
 -- the collector with no entry added
 abbrev pub quiet : Collector → Collector

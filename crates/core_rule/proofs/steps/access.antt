@@ -12,14 +12,14 @@ pub mod OldStep
 pub mod ShadeOldStep
 pub mod ShadeNewStep
 pub mod SwapStep
-use Rattle.core_machine.specs.declared.place.Access.{Access}
+use Rattle.core_machine.specs.declared.point.Access.{Access}
 use Rattle.core_rule.proofs.Terms.{LoadingMeta, Walking, Indexing, Getting, LoadingOld, ShadingOld, ShadingNew, Swapping}
-use Rattle.core_machine.specs.declared.place.Access.TheVariants.{LoadingSpot, Naming}
-use Rattle.core_machine.specs.declared.place.Place.TheVariants as places
+use Rattle.core_machine.specs.declared.point.Access.TheVariants.{LoadingSpot, Naming}
+use Rattle.core_machine.specs.declared.point.Point.TheVariants as points
 use Rattle.core_rule.proofs.steps.StepKinds.{StepKind}
 
--- the kinds of step at its places
-pub step_kind_of_access : (place : Access) → StepKind (places.Access place)
+-- the kinds of step at its points
+pub step_kind_of_access : (point : Access) → StepKind (points.Access point)
 step_kind_of_access LoadingMeta = OpenStep.step_kind_of_loading_meta
 step_kind_of_access Walking = OnwardStep.step_kind_of_walking
 step_kind_of_access LoadingSpot = LocateStep.step_kind_of_locating

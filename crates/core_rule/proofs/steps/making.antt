@@ -13,14 +13,14 @@ pub mod BirthStep
 pub mod LastBirthSpace
 pub mod LastBirthStep
 pub mod BearingStep
-use Rattle.core_machine.specs.declared.place.Making.{Making}
+use Rattle.core_machine.specs.declared.point.Making.{Making}
 use Rattle.core_rule.proofs.Terms.{Granting, Withdrawing, Gathering, GivingBack, Refusing, Placing, Listing, Bearing}
-use Rattle.core_machine.specs.declared.place.Making.TheVariants.{Storing}
-use Rattle.core_machine.specs.declared.place.Place.TheVariants as places
+use Rattle.core_machine.specs.declared.point.Making.TheVariants.{Storing}
+use Rattle.core_machine.specs.declared.point.Point.TheVariants as points
 use Rattle.core_rule.proofs.steps.StepKinds.{StepKind}
 
--- the kinds of step at its places
-pub step_kind_of_making : (place : Making) → StepKind (places.Making place)
+-- the kinds of step at its points
+pub step_kind_of_making : (point : Making) → StepKind (points.Making point)
 step_kind_of_making Granting = GrantStep.step_kind_of_granting
 step_kind_of_making Withdrawing = WithdrawStep.step_kind_of_withdrawing
 step_kind_of_making Gathering = ClaimStep.step_kind_of_gathering

@@ -8,7 +8,7 @@ use Rattle.core_rule.proofs.Terms.{IsReach}
 use Rattle.heap_model.specs.declared.command.Command.TheVariants as commands
 use Rattle.heap_model.specs.declared.entry.Entry.TheVariants as entries
 use Rattle.heap_model.proofs.Histories.{graph_after-more, total_of-more}
-use Rattle.heap_model.proofs.account_lemmas.Windows.{window_parts_make_whole, any_with_entry_more, up_to_last-yes, after_last-yes}
+use Rattle.heap_model.proofs.account_lemmas.Windows.{window_sections_make_whole, any_with_entry_more, up_to_last-yes, after_last-yes}
 use Rattle.core_machine.proofs.table_lemmas.Free.{sum_of_nothing_is_zero}
 use Rattle.core_rule.proofs.footprint.Bounds.{brings_stays_by_other}
 use Rattle.core_rule.proofs.footprint.Brought.{range_sum_is_counted_sum}
@@ -61,7 +61,7 @@ module _ (heap : Heap) (play : Bool) (number : ℕ) where
           subst (λ n. brings n (history ++ entries.Said other commands.Leave reply ∷ []) ≡ 0) (eqb-true other number here) (leave_brings heap play history other reply its)
       by _ its here = absurd (cc)
 
-  -- so after the later part of a legal history
+  -- so after the later section of a legal history
   through_after : (before later rest : List Entry) → AcceptsAll (graph_of heap before) (later ++ rest) → KeepsSpaceAfter heap play before (later ++ rest) → WhereLeft before
       → WhereLeft (before ++ later)
   through_after before [] rest accepts keeps through = subst WhereLeft (sym (append-nil before)) through
@@ -73,23 +73,23 @@ module _ (heap : Heap) (play : Bool) (number : ℕ) where
   through_legal : (history rest : List Entry) → IsLegal heap play (history ++ rest) → WhereLeft history
   through_legal history rest legal = through_after [] history rest legal.objects legal.space (λ left. absurd (cc))
 
--- the first part of what a graph accepts
-pub accepts_first_part : (g : Graph) (history later : List Entry) → AcceptsAll g (history ++ later) → AcceptsAll g history
-accepts_first_part g [] later accepts = tt
-accepts_first_part g (entry ∷ history) later accepts = (accepts.0, accepts_first_part (after_entry g entry) history later accepts.1)
+-- the first section of what a graph accepts
+pub accepts_first_section : (g : Graph) (history later : List Entry) → AcceptsAll g (history ++ later) → AcceptsAll g history
+accepts_first_section g [] later accepts = tt
+accepts_first_section g (entry ∷ history) later accepts = (accepts.0, accepts_first_section (after_entry g entry) history later accepts.1)
 
 module _ (heap : Heap) (play : Bool) (history : List Entry) (legal : IsLegal heap play history) (left : (number : ℕ) → number < heap.seats → has_left number (up_to_cycle history) ≡ true) where
   abbrev earlier : Graph
   earlier = graph_of heap (up_to_cycle history)
 
-  legal_parts : IsLegal heap play (up_to_cycle history ++ since_cycle history)
-  legal_parts = subst (IsLegal heap play) (sym (window_parts_make_whole begins_cycle history)) legal
+  legal_sections : IsLegal heap play (up_to_cycle history ++ since_cycle history)
+  legal_sections = subst (IsLegal heap play) (sym (window_sections_make_whole begins_cycle history)) legal
 
   legal_then : IsObjectLegal heap (up_to_cycle history)
-  legal_then = accepts_first_part (opening heap) (up_to_cycle history) (since_cycle history) legal_parts.objects
+  legal_then = accepts_first_section (opening heap) (up_to_cycle history) (since_cycle history) legal_sections.objects
 
   through : (number : ℕ) → number < heap.seats → IsThrough heap number (up_to_cycle history)
-  through number below = through_legal heap play number (up_to_cycle history) (since_cycle history) legal_parts (left number below)
+  through number below = through_legal heap play number (up_to_cycle history) (since_cycle history) legal_sections (left number below)
 
   all_left : (number : ℕ) → IsGone earlier number
   all_left number = elim (cases_lt number heap.seats) [
@@ -118,11 +118,11 @@ module _ (heap : Heap) (play : Bool) (history : List Entry) (legal : IsLegal hea
   none_brought = range_sum_is_counted_sum heap.seats (λ q. brings q (up_to_cycle history)) ∙ sum_of_nothing_is_zero heap.seats (λ q. brings q (up_to_cycle history)) (λ q below. (through q below).none)
 
   pub none_since : total (λ e. e.taken) (since_cycle history) ≡ 0
-  none_since = gone_take_none earlier (since_cycle history) (accepts_later (opening heap) (up_to_cycle history) (since_cycle history) legal_parts.objects) all_left
+  none_since = gone_take_none earlier (since_cycle history) (accepts_later (opening heap) (up_to_cycle history) (since_cycle history) legal_sections.objects) all_left
 
   pub bound_is_none : bound heap [] history ≡ 0
   bound_is_none = omega (arith, none_brought, none_since)
 
   -- no array was made since
   pub no_words_granted_since : total (λ e. e.words) (since_cycle history) ≡ 0
-  no_words_granted_since = gone_make_no_words earlier (since_cycle history) (accepts_later (opening heap) (up_to_cycle history) (since_cycle history) legal_parts.objects) all_left
+  no_words_granted_since = gone_make_no_words earlier (since_cycle history) (accepts_later (opening heap) (up_to_cycle history) (since_cycle history) legal_sections.objects) all_left

@@ -64,17 +64,17 @@ module _ (n : ℕ) (owner : ℕ → Owner) where
       omega (arith, both, sum-suc seats own, each seats (omega arith), seats_have own seats (λ number less. each number (omega (arith, less))))
 
 -- where a cycle begins every object was made, so what is inside is among what is reached, or a seat has it
-inside_parts : (g : Graph) (made begun : List Id) → AreMade g made → (o : Owner) → ((i k : ℕ) → o ≡ Kept i k → i < length made)
+inside_summands : (g : Graph) (made begun : List Id) → AreMade g made → (o : Owner) → ((i k : ℕ) → o ≡ Kept i k → i < length made)
     → inside_bit (is_inside g begun) made o ≡ seat_bit o + kept_bit (is_among begun) made o
-inside_parts g made begun ids (Kept i k) within = elim (cases_Bool (is_among begun (id_at made i)))
+inside_summands g made begun ids (Kept i k) within = elim (cases_Bool (is_among begun (id_at made i)))
     as (λ _. inside_bit (is_inside g begun) made (Kept i k) ≡ seat_bit (Kept i k) + kept_bit (is_among begun) made (Kept i k)) [
       | inl among ↦ rw among refl
       | inr away ↦ let its : is_some (node g (id_at made i)) ≡ true = ids.in_graph i (within i k refl) in rw (away, its) refl
     ]
-inside_parts g made begun ids Free within = refl
-inside_parts g made begun ids (Taken number) within = refl
-inside_parts g made begun ids (Borne number) within = refl
-inside_parts g made begun ids (Dead i k) within = refl
+inside_summands g made begun ids Free within = refl
+inside_summands g made begun ids (Taken number) within = refl
+inside_summands g made begun ids (Borne number) within = refl
+inside_summands g made begun ids (Dead i k) within = refl
 
 -- what is inside where a cycle begins is no more than what the seats have and what is reached
 pub inside_within_held_and_reached : (heap : Heap) (words : List ℕ) (g : Graph) (made : List Id) (owner : ℕ → Owner) (fragments : ℕ → List ℕ) {spines : ℕ → Spot} → AreMade g made → Objects heap words g made owner fragments spines
@@ -85,10 +85,10 @@ pub inside_within_held_and_reached : (heap : Heap) (words : List ℕ) (g : Graph
     ≤ sum_upto heap.seats (λ number. length (reserve number) + length (fragments_in_hand (hand number) (body number))) + fragments_of_all g begun
 inside_within_held_and_reached heap words g made owner fragments ids objects outside owners reserve hand body holding begun ordered =
     let n : ℕ = 16 * heap.groups in
-    let parts = sum_plus n (λ f. inside_bit (is_inside g begun) made (owner f)) (λ f. seat_bit (owner f)) (λ f. kept_bit (is_among begun) made (owner f))
-    (λ f less. inside_parts g made begun ids (owner f) (λ i k is. (objects.back f i k is).0)) in
+    let summands = sum_plus n (λ f. inside_bit (is_inside g begun) made (owner f)) (λ f. seat_bit (owner f)) (λ f. kept_bit (is_among begun) made (owner f))
+    (λ f less. inside_summands g made begun ids (owner f) (λ i k is. (objects.back f i k is).0)) in
     let seats = sum_of_same_functions n (λ f. seat_bit (owner f)) (λ f. sum_upto heap.seats (λ number. own_bit number (owner f))) (λ f less. one_has heap.seats (owner f) (owners.seated f)) in
     let own = seats_have n owner (λ number. length (reserve number) + length (fragments_in_hand (hand number) (body number))) heap.seats
     (λ number below. seat_has n owner number (reserve number) (hand number) (body number) (holding number below)) in
     let kept = kept_sum_within_sizes heap words g made owner fragments ids objects outside begun ordered in
-    omega (arith, parts, seats, own, kept)
+    omega (arith, summands, seats, own, kept)

@@ -5,10 +5,10 @@ use Rattle.std.proofs.lemmas.List.Sums.{fold-append}
 use Rattle.core_rule.proofs.Terms.{graph_of, spine_bound, words_granted, words_returned, begins_cycle, up_to_cycle, since_cycle, Entry, Heap, Id, Graph, opening, after_entry}
 use Rattle.core_rule.proofs.Terms.{graph_after, AcceptsAll, node, IsMade, IsReach, spine_words_at, State, Book, id_at, dead_weight, dead_sum, kept_sum, words_of_object, nodes_in}
 use Rattle.core_rule.proofs.Terms.{returning, Owner, Kept, Dead, Rule}
-use Rattle.heap_model.proofs.account_lemmas.Windows.{window_parts_make_whole}
+use Rattle.heap_model.proofs.account_lemmas.Windows.{window_sections_make_whole}
 use Rattle.core_machine.proofs.table_lemmas.Free.{sum_of_nothing_is_zero}
 use Rattle.core_rule.specs.footprint.Footprint.{is_among, is_inside}
-use Rattle.core_rule.proofs.footprint.Closed.{legal_in_two_parts}
+use Rattle.core_rule.proofs.footprint.Closed.{legal_in_two_sections}
 use Rattle.core_rule.proofs.footprint.Inside.{contains_by_test}
 use Rattle.core_rule.proofs.kept.NewWords.{spine_words_stay_after_history}
 use Rattle.core_rule.proofs.reach.ReachLists.{reached_is_made}
@@ -34,10 +34,10 @@ module _ (heap : Heap) (state : State) (book : Book) (rule : Rule heap state boo
   now = graph_of heap book.history
 
   accepts : AcceptsAll earlier later
-  accepts = accepts_later (opening heap) (up_to_cycle book.history) later (legal_in_two_parts heap book.history begun rule.heap_stands.legal.objects reach)
+  accepts = accepts_later (opening heap) (up_to_cycle book.history) later (legal_in_two_sections heap book.history begun rule.heap_stands.legal.objects reach)
 
   grown : graph_after earlier later ≡ now
-  grown = sym (fold-append after_entry (opening heap) (up_to_cycle book.history) later) ∙ ap (graph_of heap) (window_parts_make_whole begins_cycle book.history)
+  grown = sym (fold-append after_entry (opening heap) (up_to_cycle book.history) later) ∙ ap (graph_of heap) (window_sections_make_whole begins_cycle book.history)
 
   -- what was made then has its words still
   words_then : (id : Id) → IsMade earlier id → spine_words_at now id ≡ spine_words_at earlier id

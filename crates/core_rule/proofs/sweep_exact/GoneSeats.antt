@@ -96,15 +96,15 @@ grants_none g (entries.Said number command reply) accepts gone = absurd (let pre
 grants_none g _ accepts gone = refl
 
 -- a sum over what such entries do is none
-none_done : (part : Effect → ℕ) → ((g : Graph) (entry : Entry) → Accepts g entry → ((number : ℕ) → IsGone g number) → part (effect_of entry) ≡ 0)
-    → (g : Graph) (history : List Entry) → AcceptsAll g history → ((number : ℕ) → IsGone g number) → total part history ≡ 0
-none_done part none g [] accepts gone = refl
-none_done part none g (entry ∷ history) accepts gone =
+none_done : (summand : Effect → ℕ) → ((g : Graph) (entry : Entry) → Accepts g entry → ((number : ℕ) → IsGone g number) → summand (effect_of entry) ≡ 0)
+    → (g : Graph) (history : List Entry) → AcceptsAll g history → ((number : ℕ) → IsGone g number) → total summand history ≡ 0
+none_done summand none g [] accepts gone = refl
+none_done summand none g (entry ∷ history) accepts gone =
     omega (
       arith,
-      sum_by-cons (λ e. part (effect_of e)) entry history,
+      sum_by-cons (λ e. summand (effect_of e)) entry history,
       none g entry accepts.0 gone,
-      none_done part none (after_entry g entry) history accepts.1 (λ number. gone_stays_after_entry g number entry accepts.0 (gone number)),
+      none_done summand none (after_entry g entry) history accepts.1 (λ number. gone_stays_after_entry g number entry accepts.0 (gone number)),
     )
 
 pub gone_take_none : (g : Graph) (history : List Entry) → AcceptsAll g history → ((number : ℕ) → IsGone g number) → total (λ e. e.taken) history ≡ 0

@@ -3,7 +3,7 @@ use Rattle.std.proofs.Common.{◌≡◌, ℕ, Bool, false, List, [], ◌∷◌, 
 use Rattle.core_rule.proofs.Terms.{Entry, Ends, Heap, IsLegal, KeepsSpace, KeepsSpaceAfter, fragments_used, words_used, opening, history, EveryRunKeeps}
 use Rattle.heap_model.proofs.Histories.{total-more}
 use Rattle.core_rule.specs.sweep_exact.SweepLaws.{EachEndLeavesLittle, EachLastCycleEmpties, EachLastCycleBalances}
-use Rattle.core_rule.proofs.sweep_exact.AllGone.{accepts_first_part, nothing_is_reached, bound_is_none, no_words_granted_since}
+use Rattle.core_rule.proofs.sweep_exact.AllGone.{accepts_first_section, nothing_is_reached, bound_is_none, no_words_granted_since}
 use Rattle.core_rule.proofs.runs.Plays.{keeps_space_of_each_entry}
 
 -- the history of a run is legal, so what stands in it keeps the rules
@@ -13,7 +13,7 @@ each_end_leaves_little runs heap state events before rest cycle kept limits open
     let legal : IsLegal heap false (before ++ Ends cycle kept ∷ rest) = subst (IsLegal heap false) (stands.grown ∙ grown) stands.stands.rule.heap_stands.legal in
     (keeps_space_of_each_entry heap false [] before rest (Ends cycle kept) legal.space).ends
 
--- the first part of what keeps the rules
+-- the first section of what keeps the rules
 space_before : (heap : Heap) (play : Bool) (before history later : List Entry) → KeepsSpaceAfter heap play before (history ++ later)
     → KeepsSpaceAfter heap play before history
 space_before heap play before [] later kept = tt
@@ -25,7 +25,7 @@ module _ (heap : Heap) (play : Bool) (before : List Entry) (cycle kept : ℕ) (l
 
   legal_before : IsLegal heap play before
   legal_before = record {
-    objects = accepts_first_part (opening heap) before (Ends cycle kept ∷ []) legal.objects;
+    objects = accepts_first_section (opening heap) before (Ends cycle kept ∷ []) legal.objects;
     space = space_before heap play [] before (Ends cycle kept ∷ []) legal.space;
   }
 

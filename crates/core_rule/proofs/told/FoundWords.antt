@@ -7,7 +7,7 @@ use Rattle.core_rule.specs.told.Found.{TellsWord, TellsFound, EachFoundIsTold}
 use Rattle.core_rule.specs.Stands.{Stands}
 use Rattle.core_rule.proofs.told.OwnMetas.{if_some_of_present}
 use Rattle.core_rule.proofs.told.ReachedFields.{due_word_reaches_in_book}
-use Rattle.core_rule.proofs.steps.Seats.{step_kind_of_each_place}
+use Rattle.core_rule.proofs.steps.Seats.{step_kind_of_each_point}
 
 module _ (heap : Heap) (state : State) (book : Book) (number : ℕ) (stands : Stands heap state book) (here : number < heap.seats) where
   abbrev seat : Seat
@@ -20,7 +20,7 @@ module _ (heap : Heap) (state : State) (book : Book) (number : ℕ) (stands : St
   }
     where
       at_step : TellsWord heap number seat step (found_by heap state step)
-      at_step = subst (λ (o : Option Step). IfSome o (λ s. TellsWord heap number seat s (found_by heap state s))) due ((step_kind_of_each_place seat.place).found heap state book number stands here refl)
+      at_step = subst (λ (o : Option Step). IfSome o (λ s. TellsWord heap number seat s (found_by heap state s))) due ((step_kind_of_each_point seat.point).found heap state book number stands here refl)
 
 pub each_found_is_told : EachFoundIsTold
 unfolding EachFoundIsTold

@@ -17,18 +17,18 @@ use Rattle.core_rule.proofs.entries.OwnEntries.{total_of_grows_by_own}
 use Rattle.heap_model.specs.declared.graph.cell.Cell.{Cell}
 
 -- a count of the seat's own entries is that of its entries in the history
-pub total_of_own_entries : (number : ℕ) (part : Effect → ℕ) (history : List Entry) → total_of number part (filter (is_of number) history) ≡ total_of number part history
-total_of_own_entries number part [] = refl
-total_of_own_entries number part (entry ∷ history) = by (is_of number entry) refl (total_of_own_entries number part history)
+pub total_of_own_entries : (number : ℕ) (summand : Effect → ℕ) (history : List Entry) → total_of number summand (filter (is_of number) history) ≡ total_of number summand history
+total_of_own_entries number summand [] = refl
+total_of_own_entries number summand (entry ∷ history) = by (is_of number entry) refl (total_of_own_entries number summand history)
   where
-    by : (own : Bool) → is_of number entry ≡ own → total_of number part (filter (is_of number) history) ≡ total_of number part history
-        → total_of number part (cond own (entry ∷ filter (is_of number) history) (filter (is_of number) history)) ≡ total_of number part (entry ∷ history)
+    by : (own : Bool) → is_of number entry ≡ own → total_of number summand (filter (is_of number) history) ≡ total_of number summand history
+        → total_of number summand (cond own (entry ∷ filter (is_of number) history) (filter (is_of number) history)) ≡ total_of number summand (entry ∷ history)
     by true own same =
-        sum_by-cons (λ e. cond (is_of number e) (part (effect_of e)) 0) entry (filter (is_of number) history) ∙ ap (λ n. cond (is_of number entry) (part (effect_of entry)) 0 + n) same
-        ∙ sym (sum_by-cons (λ e. cond (is_of number e) (part (effect_of e)) 0) entry history)
+        sum_by-cons (λ e. cond (is_of number e) (summand (effect_of e)) 0) entry (filter (is_of number) history) ∙ ap (λ n. cond (is_of number entry) (summand (effect_of entry)) 0 + n) same
+        ∙ sym (sum_by-cons (λ e. cond (is_of number e) (summand (effect_of e)) 0) entry history)
     by false others same =
-        same ∙ sym (zero-add (total_of number part history)) ∙ ap (λ b. cond b (part (effect_of entry)) 0 + total_of number part history) (sym others)
-        ∙ sym (sum_by-cons (λ e. cond (is_of number e) (part (effect_of e)) 0) entry history)
+        same ∙ sym (zero-add (total_of number summand history)) ∙ ap (λ b. cond b (summand (effect_of entry)) 0 + total_of number summand history) (sym others)
+        ∙ sym (sum_by-cons (λ e. cond (is_of number e) (summand (effect_of e)) 0) entry history)
 
 -- the one list tells of the seat as the other does, but for the registers that are awaited
 pub record TellsAlike (heap : Heap) (number : ℕ) (awaited : ℕ → Type 0) (mine all : List Entry) : Type 0 where
@@ -36,12 +36,12 @@ pub record TellsAlike (heap : Heap) (number : ℕ) (awaited : ℕ → Type 0) (m
   pub sets : (graph_seat (graph_of heap mine) number).sets ≡ (graph_seat (graph_of heap all) number).sets
   pub left : (graph_seat (graph_of heap mine) number).left ≡ (graph_seat (graph_of heap all) number).left
   pub registers : (r : ℕ) → ¬ awaited r → register_value (graph_of heap mine) number r ≡ register_value (graph_of heap all) number r
-  pub totals : (part : Effect → ℕ) → part no_effect ≡ 0 → total_of number part mine ≡ total_of number part all
+  pub totals : (summand : Effect → ℕ) → summand no_effect ≡ 0 → total_of number summand mine ≡ total_of number summand all
 
 -- where nothing is awaited it is the same list
 pub tells_alike_where_whole : (heap : Heap) (number : ℕ) (awaited : ℕ → Type 0) (mine all : List Entry) → mine ≡ all → TellsAlike heap number awaited mine all
 tells_alike_where_whole heap number awaited mine all same = subst (TellsAlike heap number awaited mine) same
-    record { objects = refl; sets = refl; left = refl; registers = λ r free. refl; totals = λ part none. refl }
+    record { objects = refl; sets = refl; left = refl; registers = λ r free. refl; totals = λ summand none. refl }
 
 -- with another value in a register the seat is as it was, or has it there
 put_cases : (P : GraphSeat → Type 0) (g : Graph) (number d : ℕ) (cell : Cell) → P (graph_seat g number)
@@ -63,7 +63,7 @@ tells_alike_but_target heap number d r i stamp value mine = record {
   registers = λ x free.
       put_cases (λ p. (get_or before.registers x unset).value ≡ (get_or p.registers x unset).value) (graph_of heap mine) number d cell refl
       (sym (ap (λ (register : Cell). register.value) (get_or-set_other before.registers d x cell unset free))) ∙ ap (λ (g : Graph). register_value g number x) later;
-  totals = λ part none. let nothing : part (effect_of entry) ≡ 0 = none in omega (arith, total_of_grows_by_own number part mine entry (eq-eqb number number refl), nothing);
+  totals = λ summand none. let nothing : summand (effect_of entry) ≡ 0 = none in omega (arith, total_of_grows_by_own number summand mine entry (eq-eqb number number refl), nothing);
 }
   where
     entry : Entry

@@ -10,11 +10,11 @@ use Rattle.heap_model.specs.calls.SeatState.{own_object, held_value}
 use Rattle.heap_model.specs.declared.id.Value.TheVariants as values
 use Rattle.core_machine.specs.declared.seat.register.Register.TheVariants.{Nil, Number, Object}
 use Rattle.core_rule.specs.told.Found.{IsMetaOf, TellsMeta}
-use Rattle.core_rule.specs.growth.OwnGraphs.{Shape, shape_of, IsSeatsPart}
+use Rattle.core_rule.specs.growth.OwnGraphs.{Shape, shape_of, IsSeatsSubgraph}
 use Rattle.core_rule.proofs.graph.Numbering.{id_at_own_number}
 use Rattle.core_rule.proofs.graph.SameValues.{held_value_is_value as value_held}
 use Rattle.core_rule.specs.told.Told.{own_state}
-use Rattle.core_rule.proofs.told.AsTold.{own_entries_are_seats_part, seat_is_as_told}
+use Rattle.core_rule.proofs.told.AsTold.{own_entries_make_seats_subgraph, seat_is_as_told}
 use Rattle.core_rule.proofs.ways.KeptWords.{meta_tells_length, meta_tells_array_length}
 use Rattle.core_rule.proofs.graph.ToldGraph.{told_graph}
 
@@ -29,13 +29,13 @@ shape_found xs ys k object same there =
     (sym (slice_get-map shape_of ys k) ∙ ap (λ (l : List Shape). slice_get l k) (sym same) ∙ slice_get-map shape_of xs k ∙ ap (option_map shape_of) there)
 
 -- an object of the seat's own graph is one of that shape in the whole
-own_shape : (number : ℕ) (own whole : Graph) → IsSeatsPart number own whole → (id : Id) (object : Node) → node own id ≡ Some object → shape_of (node_in (node whole id)) ≡ shape_of object
-own_shape number own whole part Board object there = let same : own.board ≡ object = cc there in sym part.agrees.board ∙ ap shape_of same
-own_shape number own whole part (Made maker count) object there = elim (cases_eq maker number) [
+own_shape : (number : ℕ) (own whole : Graph) → IsSeatsSubgraph number own whole → (id : Id) (object : Node) → node own id ≡ Some object → shape_of (node_in (node whole id)) ≡ shape_of object
+own_shape number own whole subgraph Board object there = let same : own.board ≡ object = cc there in sym subgraph.agrees.board ∙ ap shape_of same
+own_shape number own whole subgraph (Made maker count) object there = elim (cases_eq maker number) [
   | inl same ↦ subst (λ n. shape_of (node_in (slice_get (graph_seat whole n).objects count)) ≡ shape_of object) (sym same)
-      (shape_found (graph_seat own number).objects (graph_seat whole number).objects count object part.agrees.seat.objects (subst (λ n. slice_get (graph_seat own n).objects count ≡ Some object) same there))
+      (shape_found (graph_seat own number).objects (graph_seat whole number).objects count object subgraph.agrees.seat.objects (subst (λ n. slice_get (graph_seat own n).objects count ≡ Some object) same there))
   | inr other ↦
-      let none : slice_get (graph_seat own maker).objects count ≡ None = ap (λ (l : List Node). slice_get l count) (part.others maker other) in
+      let none : slice_get (graph_seat own maker).objects count ≡ None = ap (λ (l : List Node). slice_get l count) (subgraph.others maker other) in
       absurd (cc (none, there))
 ]
 
@@ -60,14 +60,14 @@ module _ (heap : Heap) (state : State) (book : Book) (number : ℕ) (rule : Rule
 
   -- while no reply of its own is awaited, the object of an id by the seat's own graph has the meta
   module _ (told : seat.mine ≡ filter (is_of number) book.history) where
-    part : IsSeatsPart number (graph_of heap seat.mine) (told_graph heap book)
-    part = subst (λ (l : List Entry). IsSeatsPart number (graph_of heap l) (told_graph heap book)) (sym told) (own_entries_are_seats_part heap book.history number)
+    subgraph : IsSeatsSubgraph number (graph_of heap seat.mine) (told_graph heap book)
+    subgraph = subst (λ (l : List Entry). IsSeatsSubgraph number (graph_of heap l) (told_graph heap book)) (sym told) (own_entries_make_seats_subgraph heap book.history number)
 
     named_meta : (id : Id) → NamesKept book.made book.owner book.fragments (values.Object id)
         → IfSome (node (graph_of heap seat.mine) id) (λ object. IsMetaOf object (at heap state.words (Word (object_head book.made book.fragments id) 0)))
     named_meta id kept = if_some_of_present (λ object. IsMetaOf object (at heap state.words (Word (object_head book.made book.fragments id) 0))) (node (graph_of heap seat.mine) id)
         (λ object there. meta_is (object_number book.made id) object kept.0 kept.1
-        (ap (λ x. shape_of (node_in (node (told_graph heap book) x))) (id_at_own_number book.made id kept.0) ∙ own_shape number (graph_of heap seat.mine) (told_graph heap book) part id object there))
+        (ap (λ x. shape_of (node_in (node (told_graph heap book) x))) (id_at_own_number book.made id kept.0) ∙ own_shape number (graph_of heap seat.mine) (told_graph heap book) subgraph id object there))
 
     -- of each register
     held_meta : (r fragment : ℕ) (held : Register) (value : Value) → HoldsValue book.made book.owner book.fragments held value → held_value (own_state heap number seat) r ≡ value
@@ -79,7 +79,7 @@ module _ (heap : Heap) (state : State) (book : Book) (number : ℕ) (rule : Rule
         subst (λ v. IfSome (target_node (graph_of heap seat.mine) v) (λ object. IsMetaOf object (at heap state.words (Word fragment 0)))) (sym (is ∙ holds.0))
         (subst (λ f. IfSome (node (graph_of heap seat.mine) id) (λ object. IsMetaOf object (at heap state.words (Word f 0)))) first (named_meta id holds.1))
 
-    pub tells_meta_of_word : ((d r : ℕ) → ¬ IsAwaited seat.place d r) → (fragment : ℕ) → TellsMeta heap number seat fragment (at heap state.words (Word fragment 0))
+    pub tells_meta_of_word : ((d r : ℕ) → ¬ IsAwaited seat.point d r) → (fragment : ℕ) → TellsMeta heap number seat fragment (at heap state.words (Word fragment 0))
     tells_meta_of_word free fragment r begins =
         let none = free (target_of seat.command) r in
         let holds = (rule.seats_stand number here).names.registers r none in

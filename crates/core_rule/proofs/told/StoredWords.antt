@@ -1,9 +1,9 @@
 -- A store finds no word: what is told at its step is told of any word.
 use Rattle.std.specs.Prelude.{option_map}
 use Rattle.std.proofs.Common.{◌≡◌, ℕ, Some, ap, ◌∙◌}
-use Rattle.core_rule.proofs.Terms.{Heap, LoadingMeta, Place, Move, move_at, due_step, access_move, Seat, operation_of, WhileAccess}
-use Rattle.core_machine.specs.declared.place.Access.{Access}
-use Rattle.core_machine.specs.declared.place.Place.TheVariants as places
+use Rattle.core_rule.proofs.Terms.{Heap, LoadingMeta, Point, Move, move_at, due_step, access_move, Seat, operation_of, WhileAccess}
+use Rattle.core_machine.specs.declared.point.Access.{Access}
+use Rattle.core_machine.specs.declared.point.Point.TheVariants as points
 use Rattle.core_machine.specs.declared.step.AccessStep.TheVariants.{WalkLoad}
 use Rattle.core_machine.specs.declared.step.operation.Operation.TheVariants.{Store}
 use Rattle.core_machine.specs.declared.step.SpineStep.TheVariants.{BudgetAdd}
@@ -21,18 +21,18 @@ module _ (heap : Heap) (number : ℕ) (seat : Seat) (stored word : ℕ) where
   none_loaded (steps.Turning (LookLoad other)) stores = absurd (cc stores)
   none_loaded step stores = tt
 
-  -- and at no place of a call on an object
-  no_access : (place : Access) → operation_of (access_move heap number seat place).step ≡ Store stored → ⊥
+  -- and at no point of a call on an object
+  no_access : (point : Access) → operation_of (access_move heap number seat point).step ≡ Store stored → ⊥
   no_access LoadingMeta stores = cc stores
   no_access _ stores = cc stores
 
   module _ (step : Step) (stores : operation_of step ≡ Store stored) where
-    nowhere : (P : Access → Type 0) (place : Place) → option_map (λ (m : Move). m.step) (move_at heap number seat place) ≡ Some step → WhileAccess P place
-    nowhere P (places.Access place) due = let same : (access_move heap number seat place).step ≡ step = cc due in absurd (no_access place (ap operation_of same ∙ stores))
-    nowhere P place due = tt
+    nowhere : (P : Access → Type 0) (point : Point) → option_map (λ (m : Move). m.step) (move_at heap number seat point) ≡ Some step → WhileAccess P point
+    nowhere P (points.Access point) due = let same : (access_move heap number seat point).step ≡ step = cc due in absurd (no_access point (ap operation_of same ∙ stores))
+    nowhere P point due = tt
 
     pub store_tells_found : due_step heap number seat ≡ Some step → TellsFound heap number seat word
     store_tells_found due = record {
       word = rw due (none_loaded step stores);
-      reached = nowhere _ seat.place due;
+      reached = nowhere _ seat.point due;
     }

@@ -4,7 +4,7 @@ use Rattle.std.proofs.Common.{◌≡◌, ℕ, suc, ◌+◌, ◌-◌, ◌*◌, �
 use Rattle.std.proofs.lemmas.Bool.Decides.{eqb_tells, leb_tells}
 use Rattle.heap_words.specs.declared.spot.Spot.{Spot}
 use Rattle.core_rule.proofs.Terms.{spot_in, Heap, IsCopying, FitsCopying, Stage, found_by, array_length_of, put, address_of, word_after, IsFewCopied}
-use Rattle.core_machine.specs.collector.Copying.{marked_bits_of, next_place_of, left_half, after_visited, after_seen, visit_on, after_inspected, after_located, copy_at}
+use Rattle.core_machine.specs.collector.Copying.{marked_bits_of, next_position_of, left_half, after_visited, after_seen, visit_on, after_inspected, after_located, copy_at}
 use Rattle.core_machine.specs.collector.CopyingTurns.{copying_step, after_copying}
 use Rattle.core_machine.specs.collector.FitsTurns.{FitsVisit}
 use Rattle.core_machine.specs.declared.collector.stage.ArrayAt.{ArrayAt}
@@ -15,7 +15,7 @@ use Rattle.core_machine.specs.declared.collector.stage.Stage.TheVariants as stag
 use Rattle.core_machine.specs.declared.collector.stage.Visit.{Visit}
 use Rattle.core_rule.specs.turns.TurnsLeft.{visit_most, copy_most, visit_left, copying_left, stage_left}
 use Rattle.core_rule.proofs.turns.Lefts.{StageLeavesFewer, fewer_turns_left_at_stage}
-use Rattle.core_rule.proofs.turns.NextPlaces.{next_place_is_not_before, next_place_within_group}
+use Rattle.core_rule.proofs.turns.NextPositions.{next_position_is_not_before, next_position_within_group}
 
 module _ (heap : Heap) (phase looked : ℕ) (words : List ℕ) where
   -- so many turns are left at a stage
@@ -29,27 +29,27 @@ module _ (heap : Heap) (phase looked : ℕ) (words : List ℕ) where
     | inr last ↦ rw last.0 (omega arith)
   ]
 
-  -- the next marked fragment, or the next group, has no more left than from this place on
-  seen_leaves : (group marked from : ℕ) (place : Option ℕ) → group < heap.groups → IfSome place (λ i. from ≤ i) → IfSome place (λ i. i < 16)
-      → left_at (after_seen heap group marked place) ≤ visit_most * (heap.groups - (group + 1)) + copy_most * (16 - from)
+  -- the next marked fragment, or the next group, has no more left than from this position on
+  seen_leaves : (group marked from : ℕ) (position : Option ℕ) → group < heap.groups → IfSome position (λ i. from ≤ i) → IfSome position (λ i. i < 16)
+      → left_at (after_seen heap group marked position) ≤ visit_most * (heap.groups - (group + 1)) + copy_most * (16 - from)
   seen_leaves group marked from None below after within = omega (arith, visited_leaves group below)
-  seen_leaves group marked from (Some place) below after within = omega (arith, after, within)
+  seen_leaves group marked from (Some position) below after within = omega (arith, after, within)
 
   module _ (visit : Visit) (fits : FitsVisit heap visit) where
     -- behind a fragment the most turns of one are made
     visit_on_leaves : left_at (visit_on heap visit) + copy_most ≤ visit_left heap.groups visit
     visit_on_leaves =
-        let next = seen_leaves visit.group visit.marked (visit.place + 1) (next_place_of visit.marked (visit.place + 1)) fits.group_within
-        (next_place_is_not_before visit.marked (visit.place + 1)) (next_place_within_group visit.marked (visit.place + 1)) in
-        omega (arith, next, fits.place_within)
+        let next = seen_leaves visit.group visit.marked (visit.position + 1) (next_position_of visit.marked (visit.position + 1)) fits.group_within
+        (next_position_is_not_before visit.marked (visit.position + 1)) (next_position_within_group visit.marked (visit.position + 1)) in
+        omega (arith, next, fits.position_within)
 
     inspected_leaves : (cells : Option ℕ) → left_at (after_inspected heap visit cells) < visit_left heap.groups visit
     inspected_leaves None = omega (arith, visit_on_leaves)
-    inspected_leaves (Some cells) = omega (arith, fits.place_within)
+    inspected_leaves (Some cells) = omega (arith, fits.position_within)
 
   located_leaves : (array : ArrayAt) (from : Spot) → FitsVisit heap array.visit → left_at (after_located heap phase array from) < visit_left heap.groups array.visit - 2
   located_leaves array from fits = elim (eqb_tells from.half (left_half phase)) as (λ _. left_at (after_located heap phase array from) < visit_left heap.groups array.visit - 2) [
-    | inl left ↦ rw left.0 (omega (arith, fits.place_within))
+    | inl left ↦ rw left.0 (omega (arith, fits.position_within))
     | inr other ↦ rw other.0 (omega (arith, visit_on_leaves array.visit fits))
   ]
 
@@ -67,28 +67,28 @@ CopyingLeaves stage = (heap : Heap) (phase looked : ℕ) (words : List ℕ) (fou
 
 pub visiting_leaves_fewer : (group : ℕ) → CopyingLeaves (copying.Visiting group)
 visiting_leaves_fewer group heap phase looked words found fits few =
-    let next = seen_leaves heap phase looked words group (marked_bits_of found) 0 (next_place_of (marked_bits_of found) 0) fits (next_place_is_not_before (marked_bits_of found) 0) (next_place_within_group (marked_bits_of found) 0) in
+    let next = seen_leaves heap phase looked words group (marked_bits_of found) 0 (next_position_of (marked_bits_of found) 0) fits (next_position_is_not_before (marked_bits_of found) 0) (next_position_within_group (marked_bits_of found) 0) in
     omega (arith, next, fits)
 
 pub inspecting_leaves_fewer : (visit : Visit) → CopyingLeaves (copying.Inspecting visit)
 inspecting_leaves_fewer visit heap phase looked words found fits few = inspected_leaves heap phase looked words visit fits (array_length_of found)
 
 pub naming_leaves_fewer : (visit : Visit) (n : ℕ) → CopyingLeaves (copying.Naming visit n)
-naming_leaves_fewer visit n heap phase looked words found fits few = omega (arith, fits.0.place_within)
+naming_leaves_fewer visit n heap phase looked words found fits few = omega (arith, fits.0.position_within)
 
 pub locating_leaves_fewer : (array : ArrayAt) → CopyingLeaves (copying.Locating array)
 locating_leaves_fewer array heap phase looked words found fits few = located_leaves heap phase looked words array (spot_in found) fits.there
 
 pub claiming_leaves_fewer : (array : ArrayAt) (from : Spot) → CopyingLeaves (copying.Claiming array from)
 claiming_leaves_fewer array from heap phase looked words found fits few =
-    rw (copy_leaves heap phase looked words (record { array = array; from = from; to = spot_in found; index = 0 })) (omega (arith, fits.0.there.place_within))
+    rw (copy_leaves heap phase looked words (record { array = array; from = from; to = spot_in found; index = 0 })) (omega (arith, fits.0.there.position_within))
 
 pub loading_leaves_fewer : (copy : SpineCopy) → CopyingLeaves (copying.Loading copy)
-loading_leaves_fewer copy heap phase looked words found fits few = omega (arith, fits.0.array_fits.there.place_within, fits.1, few)
+loading_leaves_fewer copy heap phase looked words found fits few = omega (arith, fits.0.array_fits.there.position_within, fits.1, few)
 
 pub storing_leaves_fewer : (copy : SpineCopy) (word : ℕ) → CopyingLeaves (copying.Storing copy word)
 storing_leaves_fewer copy word heap phase looked words found fits few =
-    rw (copy_leaves heap phase looked words (record copy { index = copy.index + 1 })) (omega (arith, fits.copies.array_fits.there.place_within, fits.more, few))
+    rw (copy_leaves heap phase looked words (record copy { index = copy.index + 1 })) (omega (arith, fits.copies.array_fits.there.position_within, fits.more, few))
 
 pub swinging_leaves_fewer : (copy : SpineCopy) → CopyingLeaves (copying.Swinging copy)
 swinging_leaves_fewer copy heap phase looked words found fits few = omega (arith, visit_on_leaves heap phase looked words copy.array.visit fits.0.array_fits.there, fits.1, few)

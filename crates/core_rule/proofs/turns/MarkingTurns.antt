@@ -10,11 +10,11 @@ use Rattle.core_machine.specs.declared.collector.stage.Scan.{Scan}
 use Rattle.core_machine.specs.declared.collector.stage.Stage.TheVariants as stages
 use Rattle.core_machine.specs.declared.table.address.Address.TheVariants.{Spot}
 use Rattle.core_machine.proofs.table_lemmas.Addresses.{put_of_read_changes_nothing}
-use Rattle.core_machine.proofs.table_lemmas.Grey.{grey_place_within_group}
+use Rattle.core_machine.proofs.table_lemmas.Grey.{grey_position_within_group}
 use Rattle.core_rule.specs.turns.TurnsLeft.{scanned_count, next_pass, marking_left, scanning_left, stage_left}
 use Rattle.core_rule.proofs.colours.BlackenColours.{with_scan, marks_after_blackening}
 use Rattle.core_rule.proofs.colours.ShadeColours.{with_mark, marks_after_shade}
-use Rattle.core_rule.proofs.marking.GreyPlaces.{lowest_is_grey}
+use Rattle.core_rule.proofs.marking.GreyPositions.{lowest_is_grey}
 use Rattle.core_rule.proofs.marking.Scans.{scan_cases}
 use Rattle.core_rule.proofs.turns.Lefts.{StageLeavesFewer, fewer_turns_left_at_stage}
 use Rattle.core_rule.proofs.turns.ScannedCounts.{scanned_count_is_black_count, black_count_same_after_shade, black_count_grows_by_scan, grey_leaves_black_fewer}
@@ -100,14 +100,14 @@ module _ (heap : Heap) (state : State) (book : Book) (rule : Rule heap state boo
   seen_few f below grey = rw (scanned_count_is_black_count heap state.words book.colour marks) (grey_leaves_black_fewer (16 * heap.groups) book.colour f below grey)
 
   module _ (group : ℕ) (found : Bool) (below : group < heap.groups) where
-    pass_finds : (place : Option ℕ) → lowest_grey_of (at heap state.words (Control group)) ≡ place
-        → stage_left heap state.words phase looked (after_pass heap group found place) < stage_left heap state.words phase looked (stages.Passing group found)
+    pass_finds : (position : Option ℕ) → lowest_grey_of (at heap state.words (Control group)) ≡ position
+        → stage_left heap state.words phase looked (after_pass heap group found position) < stage_left heap state.words phase looked (stages.Passing group found)
     pass_finds None is = group_leaves heap phase looked state.words group found below
-    pass_finds (Some place) is =
-        let within = grey_place_within_group (at heap state.words (Control group)) place is in
-        let here : (16 * group + place) / 16 ≡ group = omega (arith, within) in
-        let grey = lowest_is_grey heap state.words book.colour group rule.machine.table below marks place is in
-        rw here (and_flip _ _ (scan_begins heap.groups (scanned_count heap state.words) group (next_pass heap.groups found) (seen_few (16 * group + place) (omega (arith, within, below)) grey)))
+    pass_finds (Some position) is =
+        let within = grey_position_within_group (at heap state.words (Control group)) position is in
+        let here : (16 * group + position) / 16 ≡ group = omega (arith, within) in
+        let grey = lowest_is_grey heap state.words book.colour group rule.machine.table below marks position is in
+        rw here (and_flip _ _ (scan_begins heap.groups (scanned_count heap state.words) group (next_pass heap.groups found) (seen_few (16 * group + position) (omega (arith, within, below)) grey)))
 
   -- a shade scans nothing
   pub scanned_count_same_after_shade : (m : ℕ) → m < 16 * heap.groups

@@ -4,14 +4,14 @@ use Rattle.std.proofs.Common.{◌≡◌, ℕ, ◌+◌, ◌-◌, ◌*◌, ◌<◌
 use Rattle.std.proofs.lemmas.Bool.Decides.{eqb_tells}
 use Rattle.heap_words.specs.Control.{free_mask_of, marks_cleared}
 use Rattle.core_rule.proofs.Terms.{Heap, IsSweeping, IsExamining, IsFreeing, IsReturning, IsClearing, Budget, Control, Word, spine_words_in, at, put, word_after}
-use Rattle.core_machine.specs.collector.Sweeping.{dead_bits_of, next_place_of, taken_count_of, after_swept, after_examined, after_freed, after_cleared}
+use Rattle.core_machine.specs.collector.Sweeping.{dead_bits_of, next_position_of, taken_count_of, after_swept, after_examined, after_freed, after_cleared}
 use Rattle.core_machine.specs.declared.collector.stage.Stage.TheVariants as stages
 use Rattle.core_machine.specs.declared.step.CopyingStep.TheVariants.{BudgetReturn}
 use Rattle.core_machine.specs.declared.step.Step.TheVariants.{Copying}
 use Rattle.core_rule.specs.turns.TurnsLeft.{stage_left}
 use Rattle.core_rule.proofs.marking.SweepMarks.{after_swept_either, after_cleared_either}
 use Rattle.core_rule.proofs.turns.Lefts.{StageLeavesFewer, fewer_turns_left_at_stage}
-use Rattle.core_rule.proofs.turns.NextPlaces.{next_place_is_not_before, next_place_within_group}
+use Rattle.core_rule.proofs.turns.NextPositions.{next_position_is_not_before, next_position_within_group}
 
 module _ (heap : Heap) (phase looked : ℕ) (words : List ℕ) (group : ℕ) (below : group < heap.groups) where
   -- behind a group that is swept less is left than before its last turn
@@ -19,8 +19,8 @@ module _ (heap : Heap) (phase looked : ℕ) (words : List ℕ) (group : ℕ) (be
   swept_leaves before last = after_swept_either (λ stage. stage_left heap words phase looked stage < before) heap group (omega (arith, last, below)) (λ end. omega (arith, last, below))
 
   -- a later fragment is looked at, or the dead ones are freed, or there were none
-  examined_leaves : (dead counted from before : ℕ) (place : Option ℕ) → before + from ≡ 19 * (heap.groups - group) → from ≤ 16 → IfSome place (λ i. from ≤ i) → IfSome place (λ i. i < 16)
-      → stage_left heap words phase looked (after_examined heap group dead counted place) < before
+  examined_leaves : (dead counted from before : ℕ) (position : Option ℕ) → before + from ≡ 19 * (heap.groups - group) → from ≤ 16 → IfSome position (λ i. from ≤ i) → IfSome position (λ i. i < 16)
+      → stage_left heap words phase looked (after_examined heap group dead counted position) < before
   examined_leaves dead counted from before (Some i) is few after within = omega (arith, is, below, after, within)
   examined_leaves dead counted from before None is few after within = elim (eqb_tells dead 0) as (λ _. stage_left heap words phase looked (after_examined heap group dead counted None) < before) [
     | inl none ↦ rw none.0 (swept_leaves before (omega (arith, is, few)))
@@ -39,18 +39,18 @@ sweep_leaves_fewer group heap state book rule sweeping stepped =
     let fits : IsSweeping heap state.collector.phase state.collector.looked group = rw sweeping at rule.machine.collector_fit.at_stage in
     let dead : ℕ = dead_bits_of (at heap state.words (Control group)) in
     let now : List ℕ = put heap state.words (Control group) (at heap state.words (Control group)) in
-    fewer_turns_left_at_stage heap state (stages.Sweeping group) now state.collector.looked (after_examined heap group dead 0 (next_place_of dead 0)) sweeping
-    (examined_leaves heap state.collector.phase state.collector.looked now group fits.group_within dead 0 0 (19 * (heap.groups - group)) (next_place_of dead 0)
-    (omega arith) (omega arith) (next_place_is_not_before dead 0) (next_place_within_group dead 0))
+    fewer_turns_left_at_stage heap state (stages.Sweeping group) now state.collector.looked (after_examined heap group dead 0 (next_position_of dead 0)) sweeping
+    (examined_leaves heap state.collector.phase state.collector.looked now group fits.group_within dead 0 0 (19 * (heap.groups - group)) (next_position_of dead 0)
+    (omega arith) (omega arith) (next_position_is_not_before dead 0) (next_position_within_group dead 0))
 
-pub examine_leaves_fewer : (group dead place counted : ℕ) → StageLeavesFewer (stages.Examining group dead place counted)
-examine_leaves_fewer group dead place counted heap state book rule examining stepped =
-    let fits : IsExamining heap state.collector.phase state.collector.looked group dead place counted = rw examining at rule.machine.collector_fit.at_stage in
-    let word : ℕ = at heap state.words (Word (16 * group + place) 0) in
-    let now : List ℕ = put heap state.words (Word (16 * group + place) 0) word in
-    fewer_turns_left_at_stage heap state (stages.Examining group dead place counted) now state.collector.looked (after_examined heap group dead (counted + spine_words_in word) (next_place_of dead (place + 1))) examining
-    (examined_leaves heap state.collector.phase state.collector.looked now group fits.sweeps.group_within dead (counted + spine_words_in word) (place + 1) (19 * (heap.groups - group) - (place + 1))
-    (next_place_of dead (place + 1)) (omega (arith, fits.place_within, fits.sweeps.group_within)) (omega (arith, fits.place_within)) (next_place_is_not_before dead (place + 1)) (next_place_within_group dead (place + 1)))
+pub examine_leaves_fewer : (group dead position counted : ℕ) → StageLeavesFewer (stages.Examining group dead position counted)
+examine_leaves_fewer group dead position counted heap state book rule examining stepped =
+    let fits : IsExamining heap state.collector.phase state.collector.looked group dead position counted = rw examining at rule.machine.collector_fit.at_stage in
+    let word : ℕ = at heap state.words (Word (16 * group + position) 0) in
+    let now : List ℕ = put heap state.words (Word (16 * group + position) 0) word in
+    fewer_turns_left_at_stage heap state (stages.Examining group dead position counted) now state.collector.looked (after_examined heap group dead (counted + spine_words_in word) (next_position_of dead (position + 1))) examining
+    (examined_leaves heap state.collector.phase state.collector.looked now group fits.sweeps.group_within dead (counted + spine_words_in word) (position + 1) (19 * (heap.groups - group) - (position + 1))
+    (next_position_of dead (position + 1)) (omega (arith, fits.position_within, fits.sweeps.group_within)) (omega (arith, fits.position_within)) (next_position_is_not_before dead (position + 1)) (next_position_within_group dead (position + 1)))
 
 pub free_leaves_fewer : (group dead counted : ℕ) → StageLeavesFewer (stages.Freeing group dead counted)
 free_leaves_fewer group dead counted heap state book rule freeing stepped =

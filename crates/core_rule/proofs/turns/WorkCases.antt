@@ -31,9 +31,9 @@ module _ (P : Stage → Type 0) (each : (stage : Copying) → P (stages.Copying 
       by true = each (copying.Visiting (group + 1))
       by false = done
 
-  pub after_seen_cases : (group marked : ℕ) (place : Option ℕ) → P (after_seen heap group marked place)
+  pub after_seen_cases : (group marked : ℕ) (position : Option ℕ) → P (after_seen heap group marked position)
   after_seen_cases group marked None = visited_on group
-  after_seen_cases group marked (Some place) = each _
+  after_seen_cases group marked (Some position) = each _
 
   pub after_located_cases : (phase : ℕ) (array : ArrayAt) (from : Spot) → P (after_located heap phase array from)
   after_located_cases phase array from = by (from.half == left_half phase)

@@ -42,13 +42,13 @@ module _ (heap : Heap) (words : List ℕ) (g : Graph) (made : List Id) (owner : 
       }
 
   -- so what is true of the first, and goes on from each fragment to what it leads to, is true of all of them
-  pub holds_of_all_parts : (P : ℕ → Type 0) → ((node_at g made i).array ≡ true → FitsSpot (spines i)) → P (fragment_at (fragments i) 0)
+  pub holds_of_all_fragments : (P : ℕ → Type 0) → ((node_at g made i).array ≡ true → FitsSpot (spines i)) → P (fragment_at (fragments i) 0)
       → ((f source x : ℕ) → P f → WordPointsTo heap words f source x → P x) → (k : ℕ) → k < length (fragments i) → P (fragment_at (fragments i) k)
-  holds_of_all_parts P fits first on zero within = first
-  holds_of_all_parts P fits first on (suc k) within =
+  holds_of_all_fragments P fits first on zero within = first
+  holds_of_all_fragments P fits first on (suc k) within =
       let next : k + 1 ≡ suc k = omega arith in
       subst (λ n. P (fragment_at (fragments i) n)) next
       (array_or_record_cases heap words g made owner fragments limits bits ids objects i below kept (P (fragment_at (fragments i) (k + 1)))
       (λ kind. on (fragment_at (fragments i) 0) (4 + k) (fragment_at (fragments i) (k + 1)) first
       (spine_leads_to_payload kind (fits kind) k (payload_within_spine_words heap words g made owner fragments limits bits ids objects i below kept kind k (omega (arith, within)))))
-      (λ kind. on (fragment_at (fragments i) k) 0 (fragment_at (fragments i) (k + 1)) (holds_of_all_parts P fits first on k (omega (arith, within))) (chain_leads_to_next kind k (omega (arith, within)))))
+      (λ kind. on (fragment_at (fragments i) k) 0 (fragment_at (fragments i) (k + 1)) (holds_of_all_fragments P fits first on k (omega (arith, within))) (chain_leads_to_next kind k (omega (arith, within)))))

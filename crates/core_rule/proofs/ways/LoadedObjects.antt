@@ -30,9 +30,9 @@ pub record RefersTo (made : List Id) (owner : ℕ → Owner) (fragments : ℕ �
 
 -- a cell of the object of this number refers to a kept object, which begins with this fragment
 pub record CellRefers (g : Graph) (made : List Id) (owner : ℕ → Owner) (fragments : ℕ → List ℕ) (i f : ℕ) : Type 0 where
-  pub place : ℕ
+  pub position : ℕ
   pub cell : Cell
-  pub there : slice_get (cells_at g made i) place ≡ Some cell
+  pub there : slice_get (cells_at g made i) position ≡ Some cell
   pub refers : RefersTo made owner fragments cell.value f
 
 module _ (made : List Id) (owner : ℕ → Owner) (fragments : ℕ → List ℕ) where
@@ -77,7 +77,7 @@ module _ (heap : Heap) (words : List ℕ) (g : Graph) (made : List Id) (owner : 
       let there : slice_get (cells_at g made finds.index) field ≡ Some cell = slice_get-get_or (cells_at g made finds.index) field unset finds.field.within in
       let named = objects.named finds.index field finds.way.below finds.way.kept cell there in
       record {
-        place = field;
+        position = field;
         cell = cell;
         there = there;
         refers = value_refers_to_head made owner fragments cell.value named.0 f

@@ -1,28 +1,28 @@
 -- What a call has in hand once it has loaded the place of a spine, from there on until it is over.
 use Rattle.std.proofs.Common.{◌≡◌, ℕ, false, List, Some, sym, ap, ◌∙◌}
 use Rattle.heap_words.specs.declared.spot.Spot.{Spot}
-use Rattle.core_rule.proofs.Terms.{Heap, Id, Node, Indexing, Getting, LoadingOld, ShadingOld, ShadingNew, Swapping, Place, register_head, Seat, fragment_at, Owner, Kept}
+use Rattle.core_rule.proofs.Terms.{Heap, Id, Node, Indexing, Getting, LoadingOld, ShadingOld, ShadingNew, Swapping, Point, register_head, Seat, fragment_at, Owner, Kept}
 use Rattle.core_rule.proofs.Terms.{SpineOwner, CallsObject, HasLoaded, ReadsSpine, WhileLoaded, OnWay, WayStands}
-use Rattle.core_machine.specs.declared.place.Place.TheVariants as places
+use Rattle.core_machine.specs.declared.point.Point.TheVariants as points
 
--- what is so of a call stays so at each of these places
-pub while_loaded_goes_on : {P Q : Type 0} (place : Place) → (HasLoaded place → P → Q) → WhileLoaded P place → WhileLoaded Q place
-while_loaded_goes_on (places.Access Indexing) goes was = goes tt was
-while_loaded_goes_on (places.Access Getting) goes was = goes tt was
-while_loaded_goes_on (places.Access LoadingOld) goes was = goes tt was
-while_loaded_goes_on (places.Access ShadingOld) goes was = goes tt was
-while_loaded_goes_on (places.Access ShadingNew) goes was = goes tt was
-while_loaded_goes_on (places.Access Swapping) goes was = goes tt was
+-- what is so of a call stays so at each of these points
+pub while_loaded_goes_on : {P Q : Type 0} (point : Point) → (HasLoaded point → P → Q) → WhileLoaded P point → WhileLoaded Q point
+while_loaded_goes_on (points.Access Indexing) goes was = goes tt was
+while_loaded_goes_on (points.Access Getting) goes was = goes tt was
+while_loaded_goes_on (points.Access LoadingOld) goes was = goes tt was
+while_loaded_goes_on (points.Access ShadingOld) goes was = goes tt was
+while_loaded_goes_on (points.Access ShadingNew) goes was = goes tt was
+while_loaded_goes_on (points.Access Swapping) goes was = goes tt was
 while_loaded_goes_on _ goes was = tt
 
 -- and it is so there
-pub while_loaded_holds : {P : Type 0} (place : Place) → HasLoaded place → WhileLoaded P place → P
-while_loaded_holds (places.Access Indexing) has was = was
-while_loaded_holds (places.Access Getting) has was = was
-while_loaded_holds (places.Access LoadingOld) has was = was
-while_loaded_holds (places.Access ShadingOld) has was = was
-while_loaded_holds (places.Access ShadingNew) has was = was
-while_loaded_holds (places.Access Swapping) has was = was
+pub while_loaded_holds : {P : Type 0} (point : Point) → HasLoaded point → WhileLoaded P point → P
+while_loaded_holds (points.Access Indexing) has was = was
+while_loaded_holds (points.Access Getting) has was = was
+while_loaded_holds (points.Access LoadingOld) has was = was
+while_loaded_holds (points.Access ShadingOld) has was = was
+while_loaded_holds (points.Access ShadingNew) has was = was
+while_loaded_holds (points.Access Swapping) has was = was
 while_loaded_holds _ has was = absurd has
 
 -- the call is on its way then, at some row of the object
@@ -31,14 +31,14 @@ pub record IsOnItsWay (made : List Id) (owner : ℕ → Owner) (fragments : ℕ 
   pub row : ℕ
   pub way : OnWay made owner fragments seat index row
 
-pub loaded_is_on_way : (nodes : ℕ → Node) (made : List Id) (owner : ℕ → Owner) (fragments : ℕ → List ℕ) (seat : Seat) (place : Place) → HasLoaded place
-    → WayStands nodes made owner fragments seat place → IsOnItsWay made owner fragments seat
-loaded_is_on_way nodes made owner fragments seat (places.Access Indexing) has way = record { index = way.index; row = 0; way = way.way }
-loaded_is_on_way nodes made owner fragments seat (places.Access Getting) has way = record { index = way.index; row = way.row; way = way.way }
-loaded_is_on_way nodes made owner fragments seat (places.Access LoadingOld) has way = record { index = way.index; row = way.row; way = way.way }
-loaded_is_on_way nodes made owner fragments seat (places.Access ShadingOld) has way = record { index = way.0.index; row = way.0.row; way = way.0.way }
-loaded_is_on_way nodes made owner fragments seat (places.Access ShadingNew) has way = record { index = way.0.index; row = way.0.row; way = way.0.way }
-loaded_is_on_way nodes made owner fragments seat (places.Access Swapping) has way = record { index = way.0.index; row = way.0.row; way = way.0.way }
+pub loaded_is_on_way : (nodes : ℕ → Node) (made : List Id) (owner : ℕ → Owner) (fragments : ℕ → List ℕ) (seat : Seat) (point : Point) → HasLoaded point
+    → WayStands nodes made owner fragments seat point → IsOnItsWay made owner fragments seat
+loaded_is_on_way nodes made owner fragments seat (points.Access Indexing) has way = record { index = way.index; row = 0; way = way.way }
+loaded_is_on_way nodes made owner fragments seat (points.Access Getting) has way = record { index = way.index; row = way.row; way = way.way }
+loaded_is_on_way nodes made owner fragments seat (points.Access LoadingOld) has way = record { index = way.index; row = way.row; way = way.way }
+loaded_is_on_way nodes made owner fragments seat (points.Access ShadingOld) has way = record { index = way.0.index; row = way.0.row; way = way.0.way }
+loaded_is_on_way nodes made owner fragments seat (points.Access ShadingNew) has way = record { index = way.0.index; row = way.0.row; way = way.0.way }
+loaded_is_on_way nodes made owner fragments seat (points.Access Swapping) has way = record { index = way.0.index; row = way.0.row; way = way.0.way }
 loaded_is_on_way nodes made owner fragments seat _ has way = absurd has
 
 -- the object in the call's register is the one on whose way it is

@@ -1,10 +1,10 @@
 -- A way goes on as before where its object does.
 use Rattle.std.proofs.Common.{◌≡◌, ℕ, ◌+◌, ◌/◌, ◌%◌, ◌<◌, List, length, sym, ap, ◌∙◌}
 use Rattle.std.specs.Prelude.{if◌then◌else◌}
-use Rattle.core_rule.proofs.Terms.{Command, Id, Node, Place, LoadingMeta, Walking, Indexing, Getting, LoadingOld, ShadingOld, ShadingNew, Swapping, row_of, part_of, field_of, Seat}
+use Rattle.core_rule.proofs.Terms.{Command, Id, Node, Point, LoadingMeta, Walking, Indexing, Getting, LoadingOld, ShadingOld, ShadingNew, Swapping, row_of, part_of, field_of, Seat}
 use Rattle.core_rule.proofs.Terms.{id_at, IsKept, Owner, LoadedKept, OnWay, FieldAhead, Finds, Locates, WayStands}
-use Rattle.core_machine.specs.declared.place.Place.TheVariants as places
-use Rattle.core_machine.specs.declared.place.Access.TheVariants.{LoadingSpot}
+use Rattle.core_machine.specs.declared.point.Point.TheVariants as points
+use Rattle.core_machine.specs.declared.point.Access.TheVariants.{LoadingSpot}
 use Rattle.core_rule.proofs.graph.SameNodes.{SameShape}
 
 -- the object of this number is kept as before: under its id, in its fragments, of its kind and with as many cells
@@ -60,15 +60,15 @@ module _ (nodes now_nodes : ℕ → Node) (made now_made : List Id) (owner now_o
       let one = stay loaded.index loaded.below loaded.kept in
       record { index = loaded.index; below = one.below; kept = one.kept; loads = rw one.fragments_stay loaded.loads }
 
-  -- a seat's way stays at its place
-  pub way_stands_still : (seat : Seat) (place : Place) → WayStands nodes made owner fragments seat place → WayStands now_nodes now_made now_owner now_fragments seat place
-  way_stands_still seat (places.Access LoadingMeta) way = record { index = way.index; way = way_stays seat way.index 0 way.way }
-  way_stands_still seat (places.Access Walking) way = finds_stays seat way
-  way_stands_still seat (places.Access LoadingSpot) way = locates_stays seat way
-  way_stands_still seat (places.Access Indexing) way = locates_stays seat way
-  way_stands_still seat (places.Access Getting) way = finds_stays seat way
-  way_stands_still seat (places.Access LoadingOld) way = finds_stays seat way
-  way_stands_still seat (places.Access ShadingOld) way = (finds_stays seat way.0, loaded_stays seat way.1)
-  way_stands_still seat (places.Access ShadingNew) way = (finds_stays seat way.0, λ some. loaded_stays seat (way.1 some))
-  way_stands_still seat (places.Access Swapping) way = (finds_stays seat way.0, λ some. loaded_stays seat (way.1 some))
+  -- a seat's way stays at its point
+  pub way_stands_still : (seat : Seat) (point : Point) → WayStands nodes made owner fragments seat point → WayStands now_nodes now_made now_owner now_fragments seat point
+  way_stands_still seat (points.Access LoadingMeta) way = record { index = way.index; way = way_stays seat way.index 0 way.way }
+  way_stands_still seat (points.Access Walking) way = finds_stays seat way
+  way_stands_still seat (points.Access LoadingSpot) way = locates_stays seat way
+  way_stands_still seat (points.Access Indexing) way = locates_stays seat way
+  way_stands_still seat (points.Access Getting) way = finds_stays seat way
+  way_stands_still seat (points.Access LoadingOld) way = finds_stays seat way
+  way_stands_still seat (points.Access ShadingOld) way = (finds_stays seat way.0, loaded_stays seat way.1)
+  way_stands_still seat (points.Access ShadingNew) way = (finds_stays seat way.0, λ some. loaded_stays seat (way.1 some))
+  way_stands_still seat (points.Access Swapping) way = (finds_stays seat way.0, λ some. loaded_stays seat (way.1 some))
   way_stands_still seat _ way = way

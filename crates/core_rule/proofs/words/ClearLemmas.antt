@@ -8,7 +8,7 @@ use Rattle.std.proofs.lemmas.Nat.Bits.{bit_at-lt}
 use Rattle.core_rule.proofs.Terms.{taken_at, tally, is_clear, clear_in, clear_among, sum_upto, free_in, Owner, taken_bit, free_bit}
 use Rattle.core_machine.proofs.table_lemmas.Free.{sum_of_same_functions}
 use Rattle.core_rule.proofs.owners.OwnerLemmas.{free_bit_is_untaken}
-use Rattle.core_rule.proofs.lists.Parts.{tally-filter_yes, tally-filter_no, tally-range, tally-range_below, tally-range_above, group_tallies_are_length}
+use Rattle.core_rule.proofs.lists.GroupLists.{tally-filter_yes, tally-filter_no, tally-range, tally-range_below, tally-range_above, group_tallies_are_length}
 
 filter_none : (p : ℕ → Bool) (f : ℕ) (xs : List ℕ) → tally f xs ≡ 0 → tally f (filter p xs) ≡ 0
 filter_none p f xs none = elim (cases_Bool (p f)) as (λ _. tally f (filter p xs) ≡ 0) [
@@ -73,6 +73,6 @@ clear_length_is_free_count g word owner bits =
   where
     each : (j : ℕ) → j < 16 → tally (16 * g + j) (clear_in g word) ≡ free_bit (owner (16 * g + j))
     each j below =
-        let place : (16 * g + j) % 16 ≡ j = omega arith in
-        let bit : bit_at word ((16 * g + j) % 16) ≡ taken_bit (owner (16 * g + j)) = rw place (bits j below) in
+        let position : (16 * g + j) % 16 ≡ j = omega arith in
+        let bit : bit_at word ((16 * g + j) % 16) ≡ taken_bit (owner (16 * g + j)) = rw position (bits j below) in
         clear_tally_is_untaken_bit g word (16 * g + j) (omega arith) ∙ free_bit_is_untaken (owner (16 * g + j)) (bit_at word ((16 * g + j) % 16)) bit

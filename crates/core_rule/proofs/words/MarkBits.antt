@@ -35,21 +35,21 @@ module _ (word : ℕ) where
       -- the bits of a black birth, quarter by quarter
       third : (black : Bool) → bit_at (birth_bits_of black bits) (32 + j) ≡ cond {A = ℕ} black (bit_at bits j) 0
       third false =
-          let at_place : 32 + j ≡ 16 + (16 + j) = omega arith in
-          rw (at_place, shifted bits (16 + j)) (none_past (16 + j) (omega arith))
+          let at_position : 32 + j ≡ 16 + (16 + j) = omega arith in
+          rw (at_position, shifted bits (16 + j)) (none_past (16 + j) (omega arith))
       third true =
-          let at_place : 32 + j ≡ 16 + (16 + j) = omega arith in
+          let at_position : 32 + j ≡ 16 + (16 + j) = omega arith in
           let e : birth_bits_of true bits ≡ ((bits * 2 ^ 16 + bits) * 2 ^ 16 + bits) * 2 ^ 16 = omega arith in
-          rw (at_place, e, shifted ((bits * 2 ^ 16 + bits) * 2 ^ 16 + bits) (16 + j), high (bits * 2 ^ 16 + bits) j) (low bits)
+          rw (at_position, e, shifted ((bits * 2 ^ 16 + bits) * 2 ^ 16 + bits) (16 + j), high (bits * 2 ^ 16 + bits) j) (low bits)
 
       fourth : (black : Bool) → bit_at (birth_bits_of black bits) (48 + j) ≡ cond {A = ℕ} black (bit_at bits j) 0
       fourth false =
-          let at_place : 48 + j ≡ 16 + (32 + j) = omega arith in
-          rw (at_place, shifted bits (32 + j)) (none_past (32 + j) (omega arith))
+          let at_position : 48 + j ≡ 16 + (32 + j) = omega arith in
+          rw (at_position, shifted bits (32 + j)) (none_past (32 + j) (omega arith))
       fourth true =
-          let at_place : 48 + j ≡ 16 + (16 + (16 + j)) = omega arith in
+          let at_position : 48 + j ≡ 16 + (16 + (16 + j)) = omega arith in
           let e : birth_bits_of true bits ≡ ((bits * 2 ^ 16 + bits) * 2 ^ 16 + bits) * 2 ^ 16 = omega arith in
-          rw (at_place, e, shifted ((bits * 2 ^ 16 + bits) * 2 ^ 16 + bits) (16 + (16 + j)), high (bits * 2 ^ 16 + bits) (16 + j), high bits j) refl
+          rw (at_position, e, shifted ((bits * 2 ^ 16 + bits) * 2 ^ 16 + bits) (16 + (16 + j)), high (bits * 2 ^ 16 + bits) (16 + j), high bits j) refl
 
       -- a black birth sets the marked and the scanned bits of the mask, a white one none
       pub birth_sets_marked_bits : (black : Bool) → bit_at (bit_or word (birth_bits_of black bits)) (32 + j) ≡ max (bit_at word (32 + j)) (cond {A = ℕ} black (bit_at bits j) 0)

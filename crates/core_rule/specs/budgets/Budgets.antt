@@ -14,9 +14,9 @@ use Rattle.heap_words.specs.declared.spot.Spot.{Spot}
 use Rattle.core_machine.specs.declared.collector.stage.Copying.TheVariants as copying
 use Rattle.core_machine.specs.declared.collector.stage.Stage.{Stage}
 use Rattle.core_machine.specs.declared.collector.stage.Stage.TheVariants as stages
-use Rattle.core_machine.specs.declared.place.Making.TheVariants.{Withdrawing, Gathering, GivingBack, Refusing, Placing, Listing, Storing, Bearing}
-use Rattle.core_machine.specs.declared.place.Place.{Place}
-use Rattle.core_machine.specs.declared.place.Place.TheVariants as places
+use Rattle.core_machine.specs.declared.point.Making.TheVariants.{Withdrawing, Gathering, GivingBack, Refusing, Placing, Listing, Storing, Bearing}
+use Rattle.core_machine.specs.declared.point.Point.{Point}
+use Rattle.core_machine.specs.declared.point.Point.TheVariants as points
 use Rattle.core_machine.specs.declared.table.address.Address.TheVariants.{Budget}
 use Rattle.core_machine.specs.machine.Machine.{State, seat_at}
 use Rattle.core_machine.specs.machine.Sums.{sum_upto}
@@ -30,31 +30,31 @@ use Rattle.core_rule.specs.owners.Owners.{Owner, Kept, Dead}
 use Rattle.core_rule.specs.spines.Spines.{next_spine}
 
 -- the spine words that are granted to a seat's call
-abbrev pub granted_at : Seat → Place → ℕ
-granted_at seat (places.Making Gathering) = spine_need seat
-granted_at seat (places.Making GivingBack) = spine_need seat
-granted_at seat (places.Making Refusing) = spine_need seat
-granted_at seat (places.Making Placing) = spine_need seat
-granted_at seat (places.Making Listing) = spine_need seat
-granted_at seat (places.Making Storing) = spine_need seat
-granted_at seat (places.Making Bearing) = spine_need seat
+abbrev pub granted_at : Seat → Point → ℕ
+granted_at seat (points.Making Gathering) = spine_need seat
+granted_at seat (points.Making GivingBack) = spine_need seat
+granted_at seat (points.Making Refusing) = spine_need seat
+granted_at seat (points.Making Placing) = spine_need seat
+granted_at seat (points.Making Listing) = spine_need seat
+granted_at seat (points.Making Storing) = spine_need seat
+granted_at seat (points.Making Bearing) = spine_need seat
 granted_at seat _ = 0
 
 -- the spine words of a seat's call that have their place in this half
-abbrev pub placed_at : ℕ → Seat → Place → ℕ
-placed_at half seat (places.Making Listing) = if seat.spine.half == half then spine_need seat else 0
-placed_at half seat (places.Making Storing) = if seat.spine.half == half then spine_need seat else 0
-placed_at half seat (places.Making Bearing) = if seat.spine.half == half then spine_need seat else 0
+abbrev pub placed_at : ℕ → Seat → Point → ℕ
+placed_at half seat (points.Making Listing) = if seat.spine.half == half then spine_need seat else 0
+placed_at half seat (points.Making Storing) = if seat.spine.half == half then spine_need seat else 0
+placed_at half seat (points.Making Bearing) = if seat.spine.half == half then spine_need seat else 0
 placed_at half seat _ = 0
 
 -- the spine words that a seat has asked for and was refused, and hasn't taken back yet
-abbrev pub refused_at : Seat → Place → ℕ
-refused_at seat (places.Making Withdrawing) = spine_need seat
+abbrev pub refused_at : Seat → Point → ℕ
+refused_at seat (points.Making Withdrawing) = spine_need seat
 refused_at seat _ = 0
 
 -- a number of each seat, summed over all
-abbrev pub of_seats : Heap → State → (Seat → Place → ℕ) → ℕ
-of_seats heap state number = sum_upto heap.seats (λ r. number (seat_at state r) (seat_at state r).place)
+abbrev pub of_seats : Heap → State → (Seat → Point → ℕ) → ℕ
+of_seats heap state number = sum_upto heap.seats (λ r. number (seat_at state r) (seat_at state r).point)
 
 -- the weight of an object where the fragment is its first one, and kept
 abbrev pub kept_weight : (ℕ → ℕ) → Owner → ℕ
@@ -117,7 +117,7 @@ returned_in_cycle history = words_returned (since_cycle history)
 
 -- the sweep has counted the spine words of its group's arrays that are to be freed, as far as it has looked
 abbrev pub SweepCounts : (ℕ → ℕ) → (ℕ → Owner) → Stage → Type 0
-SweepCounts words owner (stages.Examining group dead place counted) = counted ≡ sum_upto place (λ j. dead_weight words (owner (group_fragments * group + j)))
+SweepCounts words owner (stages.Examining group dead position counted) = counted ≡ sum_upto position (λ j. dead_weight words (owner (group_fragments * group + j)))
 SweepCounts words owner (stages.Freeing group dead counted) = counted ≡ sum_upto group_fragments (λ j. dead_weight words (owner (group_fragments * group + j)))
 SweepCounts words owner _ = Unit {0}
 
@@ -139,6 +139,6 @@ pub record BudgetsStand (heap : Heap) (state : State) (book : Book) : Type 0 whe
   pub counts : SweepCounts (words_of_object (nodes_in heap book)) book.owner state.collector.stage
 
 -- a call that takes its spine words back has found a number that a run may show, below 2^32
-abbrev pub UsedStands : Heap → List Entry → ℕ → Seat → Place → Type 0
-UsedStands heap history number seat (places.Making Withdrawing) = FindsSpine heap false history number seat.used × (seat.used < 2 ^ 32)
+abbrev pub UsedStands : Heap → List Entry → ℕ → Seat → Point → Type 0
+UsedStands heap history number seat (points.Making Withdrawing) = FindsSpine heap false history number seat.used × (seat.used < 2 ^ 32)
 UsedStands heap history number seat _ = Unit {0}

@@ -4,8 +4,8 @@ use Rattle.heap_model.specs.declared.entry.Entry.{Entry}
 use Rattle.heap_model.specs.declared.heap.Heap.{Heap}
 use Rattle.heap_model.specs.Heap.{IsHeap}
 use Rattle.core_machine.specs.collector.Collector.{next_turn}
-use Rattle.core_machine.specs.declared.place.Making.TheVariants.{Placing}
-use Rattle.core_machine.specs.declared.place.Place.TheVariants as places
+use Rattle.core_machine.specs.declared.point.Making.TheVariants.{Placing}
+use Rattle.core_machine.specs.declared.point.Point.TheVariants as points
 use Rattle.core_machine.specs.declared.step.CopyingStep.TheVariants.{CopyClaim}
 use Rattle.core_machine.specs.declared.step.Step.TheVariants as steps
 use Rattle.core_machine.specs.machine.Machine.{State, seat_at, Event, Run, state_after_all, history}
@@ -39,7 +39,7 @@ EachOffsetIsWithin = (heap : Heap) (state : State) (events : List Event) → IsH
 
 -- a spine whose words are granted is always placed: they are no more than what is left of the half, as far as the budget goes
 abbrev pub EachGrantIsPlaced : Type 0
-EachGrantIsPlaced = (heap : Heap) (state : State) (book : Book) (number : ℕ) → Rule heap state book → number < heap.seats → (seat_at state number).place ≡ places.Making Placing
+EachGrantIsPlaced = (heap : Heap) (state : State) (book : Book) (number : ℕ) → Rule heap state book → number < heap.seats → (seat_at state number).point ≡ points.Making Placing
     → (next_spine heap state.words).offset + spine_need (seat_at state number) ≤ heap.spine
 
 -- the copy of a spine always fits into what is left of the half, as far as the budget goes

@@ -16,9 +16,9 @@ use Rattle.core_machine.specs.declared.collector.stage.SpineCopy.{SpineCopy}
 use Rattle.core_machine.specs.declared.collector.stage.Stage.{Stage}
 use Rattle.core_machine.specs.declared.collector.stage.Stage.TheVariants as stages
 use Rattle.core_machine.specs.declared.collector.stage.Visit.{Visit}
-use Rattle.core_machine.specs.declared.place.Access.TheVariants.{Indexing, Getting, LoadingOld, ShadingOld, ShadingNew, Swapping}
-use Rattle.core_machine.specs.declared.place.Place.{Place}
-use Rattle.core_machine.specs.declared.place.Place.TheVariants as places
+use Rattle.core_machine.specs.declared.point.Access.TheVariants.{Indexing, Getting, LoadingOld, ShadingOld, ShadingNew, Swapping}
+use Rattle.core_machine.specs.declared.point.Point.{Point}
+use Rattle.core_machine.specs.declared.point.Point.TheVariants as points
 use Rattle.core_machine.specs.seat.Commands.{object_of}
 use Rattle.core_machine.specs.seat.Registers.{register_head, register_in}
 use Rattle.core_machine.specs.seat.Seat.{Seat}
@@ -35,24 +35,24 @@ pub record IsLeftReplica (heap : Heap) (words : List ℕ) (object : Node) (fragm
   pub left : (k : ℕ) → k < spine_words_of object → spine_owner address.half (address.offset + k) ≡ Gone
   pub listed : (k : ℕ) → k < spine_words_of object → at heap words (spine_place address k) ≡ spine_word (fragment_at fragments (k + 1))
 
--- at this place a call on an array has loaded the place of its spine, and isn't done with its cell
-abbrev pub HasLoaded : Place → Type 0
-HasLoaded (places.Access Indexing) = Unit {0}
-HasLoaded (places.Access Getting) = Unit {0}
-HasLoaded (places.Access LoadingOld) = Unit {0}
-HasLoaded (places.Access ShadingOld) = Unit {0}
-HasLoaded (places.Access ShadingNew) = Unit {0}
-HasLoaded (places.Access Swapping) = Unit {0}
+-- at this point a call on an array has loaded the place of its spine, and isn't done with its cell
+abbrev pub HasLoaded : Point → Type 0
+HasLoaded (points.Access Indexing) = Unit {0}
+HasLoaded (points.Access Getting) = Unit {0}
+HasLoaded (points.Access LoadingOld) = Unit {0}
+HasLoaded (points.Access ShadingOld) = Unit {0}
+HasLoaded (points.Access ShadingNew) = Unit {0}
+HasLoaded (points.Access Swapping) = Unit {0}
 HasLoaded _ = ⊥
 
 -- what holds where a call has loaded the place of a spine
-abbrev pub WhileLoaded : Type 0 → Place → Type 0
-WhileLoaded P (places.Access Indexing) = P
-WhileLoaded P (places.Access Getting) = P
-WhileLoaded P (places.Access LoadingOld) = P
-WhileLoaded P (places.Access ShadingOld) = P
-WhileLoaded P (places.Access ShadingNew) = P
-WhileLoaded P (places.Access Swapping) = P
+abbrev pub WhileLoaded : Type 0 → Point → Type 0
+WhileLoaded P (points.Access Indexing) = P
+WhileLoaded P (points.Access Getting) = P
+WhileLoaded P (points.Access LoadingOld) = P
+WhileLoaded P (points.Access ShadingOld) = P
+WhileLoaded P (points.Access ShadingNew) = P
+WhileLoaded P (points.Access Swapping) = P
 WhileLoaded P _ = Unit {0}
 
 -- the call's register holds the object that begins with this fragment
@@ -66,12 +66,12 @@ ReadsSpine heap words nodes owner fragments spines spine_owner seat =
     → (seat.address ≡ spines i) ⊎ IsLeftReplica heap words (nodes i) (fragments i) spine_owner seat.answered seat.address
 
 -- the place of a spine that a call has loaded is such a one until the call is done with its cell
-abbrev pub AddressStands : Heap → List ℕ → (ℕ → Node) → (ℕ → Owner) → (ℕ → List ℕ) → (ℕ → Spot) → (ℕ → ℕ → SpineOwner) → Seat → Place → Type 0
-AddressStands heap words nodes owner fragments spines spine_owner seat place = WhileLoaded (ReadsSpine heap words nodes owner fragments spines spine_owner seat) place
+abbrev pub AddressStands : Heap → List ℕ → (ℕ → Node) → (ℕ → Owner) → (ℕ → List ℕ) → (ℕ → Spot) → (ℕ → ℕ → SpineOwner) → Seat → Point → Type 0
+AddressStands heap words nodes owner fragments spines spine_owner seat point = WhileLoaded (ReadsSpine heap words nodes owner fragments spines spine_owner seat) point
 
 -- the fragments that a visit has found to be marked are marked
 abbrev pub VisitIsMarked : (ℕ → Colour) → Visit → Type 0
-VisitIsMarked colour visit = (place : ℕ) → bit_at visit.marked place ≡ 1 → IsMarked colour (group_fragments * visit.group + place)
+VisitIsMarked colour visit = (position : ℕ) → bit_at visit.marked position ≡ 1 → IsMarked colour (group_fragments * visit.group + position)
 
 -- a kept array of so many spine words begins with the fragment
 pub record BeginsArray (nodes : ℕ → Node) (owner : ℕ → Owner) (f words : ℕ) : Type 0 where

@@ -11,9 +11,9 @@ use Rattle.heap_model.specs.graph.Graph.{Graph}
 pub use Rattle.heap_model.specs.account.Noting.{is_collectors}
 use Rattle.heap_model.specs.account.Space.{fragments_gained, fragments_lost, taken_of, spent_of}
 use Rattle.heap_model.specs.account.Effects.{is_of}
-use Rattle.core_machine.specs.declared.place.Place.{Place}
-use Rattle.core_machine.specs.declared.place.Place.TheVariants as places
-use Rattle.core_machine.specs.declared.place.Access.TheVariants.{Naming}
+use Rattle.core_machine.specs.declared.point.Point.{Point}
+use Rattle.core_machine.specs.declared.point.Point.TheVariants as points
+use Rattle.core_machine.specs.declared.point.Access.TheVariants.{Naming}
 use Rattle.core_machine.specs.seat.Commands.{target_of}
 use Rattle.heap_words.specs.Loaded.{head_of, stamp_of}
 use Rattle.core_machine.specs.seat.Seat.{Seat}
@@ -32,15 +32,15 @@ pub record IsAwaitingName (g : Graph) (made : List Id) (owner : ℕ → Owner) (
   pub told : awaited ≡ Said number seat.command (Got (values.Object id) (stamp_of seat.loaded)) ∷ []
 
 -- what the history has of the seat and its own list still awaits: the reply of a get that awaits a name, and else nothing
-abbrev pub Awaits : Graph → List Id → (ℕ → Owner) → (ℕ → List ℕ) → ℕ → Seat → Place → List Entry → Type 0
-Awaits g made owner fragments number seat (places.Access Naming) awaited = IsAwaitingName g made owner fragments number seat awaited
+abbrev pub Awaits : Graph → List Id → (ℕ → Owner) → (ℕ → List ℕ) → ℕ → Seat → Point → List Entry → Type 0
+Awaits g made owner fragments number seat (points.Access Naming) awaited = IsAwaitingName g made owner fragments number seat awaited
 Awaits g made owner fragments number seat _ awaited = awaited ≡ []
 
 -- the seat's own entries are those of the history, but for what is awaited
 pub record OwnList (g : Graph) (history : List Entry) (made : List Id) (owner : ℕ → Owner) (fragments : ℕ → List ℕ) (number : ℕ) (seat : Seat) : Type 0 where
   pub awaited : List Entry
   pub own : seat.mine ++ awaited ≡ filter (is_of number) history
-  pub awaits : Awaits g made owner fragments number seat seat.place awaited
+  pub awaits : Awaits g made owner fragments number seat seat.point awaited
 
 -- what the seat has counted of its own is what the graph and the history say
 pub record CountsAgree (g : Graph) (history : List Entry) (number : ℕ) (seat : Seat) : Type 0 where

@@ -19,6 +19,6 @@ pub record HeapInCycle (heap : Heap) (words : List ℕ) (phase : ℕ) (owner : �
 -- what the seat has answered, what it is about to answer, what it has in flight, and the colour of its births are right
 pub record SeatInCycle (heap : Heap) (words : List ℕ) (phase answers : ℕ) (gone : Bool) (owner : ℕ → Owner) (colour : ℕ → Colour) (number : ℕ) (seat : Seat) : Type 0 where
   pub answers_told : AnswersAgree heap words phase answers gone number seat.left seat.answered seat.asked
-  pub answer : AnswerStands phase seat.answered seat.asked seat.place
+  pub answer : AnswerStands phase seat.answered seat.asked seat.point
   pub flight : Flight heap words colour phase seat
   pub births : BornColours owner colour number seat.answered

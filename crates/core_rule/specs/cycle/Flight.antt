@@ -3,12 +3,12 @@ use Rattle.std.specs.Prelude.{◌≡◌, ℕ, ◌%◌, ◌<◌, ◌⊎◌, List,
 use Rattle.std.specs.List.{filter_map}
 use Rattle.heap_model.specs.declared.heap.Heap.{Heap}
 use Rattle.heap_model.specs.PhasePlan.{cycle_phases, barriers, black_births, marking, sweep}
-use Rattle.core_machine.specs.declared.place.Place.{Place}
-use Rattle.core_machine.specs.declared.place.Place.TheVariants as places
-use Rattle.core_machine.specs.declared.place.Polling.{Polling}
-use Rattle.core_machine.specs.declared.place.Polling.TheVariants.{Asking, Shading, Answering}
-use Rattle.core_machine.specs.declared.place.Access.{Access}
-use Rattle.core_machine.specs.declared.place.Access.TheVariants.{ShadingOld, ShadingNew, Swapping}
+use Rattle.core_machine.specs.declared.point.Point.{Point}
+use Rattle.core_machine.specs.declared.point.Point.TheVariants as points
+use Rattle.core_machine.specs.declared.point.Polling.{Polling}
+use Rattle.core_machine.specs.declared.point.Polling.TheVariants.{Asking, Shading, Answering}
+use Rattle.core_machine.specs.declared.point.Access.{Access}
+use Rattle.core_machine.specs.declared.point.Access.TheVariants.{ShadingOld, ShadingNew, Swapping}
 use Rattle.core_machine.specs.declared.seat.register.Register.{Register}
 use Rattle.heap_words.specs.Loaded.{head_of}
 use Rattle.core_machine.specs.seat.AccessMoves.{new_register_of}
@@ -35,9 +35,9 @@ ShadedStands colour seat Swapping = IsBetween barriers sweep seat.answered
     → IfSome (head_of seat.loaded) (IsMarked colour) × IfSome (register_head (new_register_of seat)) (IsMarked colour)
 ShadedStands colour seat _ = Unit {0}
 
--- what holds at the places of access
-abbrev pub WhileAccess : (Access → Type 0) → Place → Type 0
-WhileAccess P (places.Access place) = P place
+-- what holds at the points of access
+abbrev pub WhileAccess : (Access → Type 0) → Point → Type 0
+WhileAccess P (points.Access point) = P point
 WhileAccess P _ = Unit {0}
 
 -- the object that the register holds is marked, where it holds one
@@ -54,15 +54,15 @@ RootsStand colour seat Asking = Unit {0}
 RootsStand colour seat Shading = (r : ℕ) → objects_before seat.registers r < seat.shaded → IsRootMarked colour seat.registers r
 RootsStand colour seat Answering = (r : ℕ) → IsRootMarked colour seat.registers r
 
--- what holds at the places of polling
-abbrev pub WhilePolling : (Polling → Type 0) → Place → Type 0
-WhilePolling P (places.Polling place) = P place
+-- what holds at the points of polling
+abbrev pub WhilePolling : (Polling → Type 0) → Point → Type 0
+WhilePolling P (points.Polling point) = P point
 WhilePolling P _ = Unit {0}
 
 -- of a set in flight no value is lost unmarked, and what a set or an answer in flight has shaded is marked
 pub record Flight (heap : Heap) (words : List ℕ) (colour : ℕ → Colour) (phase : ℕ) (seat : Seat) : Type 0 where
   -- no value is lost once the seat has answered the cycle's phase of black births
-  pub set : IsBetween black_births sweep phase → IsBetween black_births sweep seat.answered → WhileAccess (FieldStands heap words colour seat) seat.place
-  pub shaded : IsBetween barriers sweep phase → WhileAccess (ShadedStands colour seat) seat.place
+  pub set : IsBetween black_births sweep phase → IsBetween black_births sweep seat.answered → WhileAccess (FieldStands heap words colour seat) seat.point
+  pub shaded : IsBetween barriers sweep phase → WhileAccess (ShadedStands colour seat) seat.point
   -- an answer that marking begins has shaded the objects of its seat's registers
-  pub roots : seat.asked % cycle_phases ≡ marking → WhilePolling (RootsStand colour seat) seat.place
+  pub roots : seat.asked % cycle_phases ≡ marking → WhilePolling (RootsStand colour seat) seat.point

@@ -5,10 +5,10 @@ use Rattle.heap_model.specs.declared.heap.Heap.{Heap}
 use Rattle.heap_model.specs.declared.entry.Entry.{Entry}
 use Rattle.heap_model.specs.account.PhaseCounts.{phase, last_answer, has_left}
 use Rattle.core_machine.specs.declared.table.address.Address.TheVariants.{Answer}
-use Rattle.core_machine.specs.declared.place.Place.{Place}
-use Rattle.core_machine.specs.declared.place.Place.TheVariants as places
-use Rattle.core_machine.specs.declared.place.Polling.{Polling}
-use Rattle.core_machine.specs.declared.place.Polling.TheVariants.{Asking, Shading, Answering}
+use Rattle.core_machine.specs.declared.point.Point.{Point}
+use Rattle.core_machine.specs.declared.point.Point.TheVariants as points
+use Rattle.core_machine.specs.declared.point.Polling.{Polling}
+use Rattle.core_machine.specs.declared.point.Polling.TheVariants.{Asking, Shading, Answering}
 use Rattle.core_machine.specs.collector.Collector.{Collector}
 use Rattle.core_machine.specs.table.Layout.{at}
 use Rattle.core_rule.specs.counts.Counts.{is_collectors}
@@ -35,15 +35,15 @@ pub record Asks (phase answer asked : ℕ) : Type 0 where
   pub now : asked ≡ phase
   pub next : asked ≡ answer + 1
 
--- what is about to be answered at each place of a poll
+-- what is about to be answered at each point of a poll
 abbrev pub PollingStands : ℕ → ℕ → ℕ → Polling → Type 0
 PollingStands phase answer asked Asking = Unit {0}
 PollingStands phase answer asked Shading = Asks phase answer asked
 PollingStands phase answer asked Answering = Asks phase answer asked
 
--- what is about to be answered at each place
-abbrev pub AnswerStands : ℕ → ℕ → ℕ → Place → Type 0
-AnswerStands phase answer asked (places.Polling place) = PollingStands phase answer asked place
+-- what is about to be answered at each point
+abbrev pub AnswerStands : ℕ → ℕ → ℕ → Point → Type 0
+AnswerStands phase answer asked (points.Polling point) = PollingStands phase answer asked point
 AnswerStands phase answer asked _ = Unit {0}
 
 -- the collector's entries and phase are the history's, and each seat that it has seen has answered the phase or left

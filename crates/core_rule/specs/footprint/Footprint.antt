@@ -13,8 +13,8 @@ use Rattle.heap_model.specs.graph.Objects.{node}
 use Rattle.heap_model.specs.graph.Reach.{IsReach}
 use Rattle.core_machine.specs.declared.collector.stage.Stage.{Stage}
 use Rattle.core_machine.specs.declared.collector.stage.Stage.TheVariants as stages
-use Rattle.core_machine.specs.declared.place.Access.TheVariants.{ShadingOld}
-use Rattle.core_machine.specs.declared.place.Place.TheVariants as places
+use Rattle.core_machine.specs.declared.point.Access.TheVariants.{ShadingOld}
+use Rattle.core_machine.specs.declared.point.Point.TheVariants as points
 use Rattle.core_machine.specs.machine.Machine.{State, seat_at}
 use Rattle.core_machine.specs.machine.Sums.{sum_upto}
 use Rattle.core_machine.specs.seat.Registers.{is_same_id}
@@ -72,7 +72,7 @@ pub record Footprint (heap : Heap) (state : State) (book : Book) (begun : List I
   -- what is marked is inside, and in the last phase all that is kept
   pub kept : (f i k : ℕ) → book.owner f ≡ Kept i k → IsMarked book.colour f ⊎ (phase book.history % cycle_phases ≡ clearing) → inside (id_at book.made i) ≡ true
   -- so is an old value that a set has loaded
-  pub olds : (number f i k : ℕ) → number < heap.seats → (seat_at state number).place ≡ places.Access ShadingOld → head_of (seat_at state number).loaded ≡ Some f
+  pub olds : (number f i k : ℕ) → number < heap.seats → (seat_at state number).point ≡ points.Access ShadingOld → head_of (seat_at state number).loaded ≡ Some f
       → book.owner f ≡ Kept i k → inside (id_at book.made i) ≡ true
   -- and what the collector is about to mark
   pub stage : StageStandsInside heap book.made begun inside book.owner most state.collector.stage

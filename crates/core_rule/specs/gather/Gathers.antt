@@ -6,9 +6,9 @@ use Rattle.heap_model.specs.declared.entry.Entry.{Entry}
 use Rattle.heap_model.specs.account.Refusals.{given_up}
 use Rattle.heap_model.specs.account.Space.{total_but}
 use Rattle.heap_model.specs.account.Windows.{is_reply_to}
-use Rattle.core_machine.specs.declared.place.Place.{Place}
-use Rattle.core_machine.specs.declared.place.Place.TheVariants as places
-use Rattle.core_machine.specs.declared.place.Access.TheVariants.{Naming}
+use Rattle.core_machine.specs.declared.point.Point.{Point}
+use Rattle.core_machine.specs.declared.point.Point.TheVariants as points
+use Rattle.core_machine.specs.declared.point.Access.TheVariants.{Naming}
 use Rattle.core_machine.specs.machine.Sums.{sum_upto}
 use Rattle.core_rule.specs.owners.Owners.{Owner, free_bit}
 
@@ -32,12 +32,12 @@ pub record GathersRight (heap : Heap) (owner : ℕ → Owner) (number : ℕ) (si
   pub returned : given ≤ free_in_all heap owner + total_but number (λ e. e.taken) since
 
 -- no reply is to come: there is no call, or the history has its reply, which only awaits a name
-abbrev pub IsAnswered : Place → Type 0
-IsAnswered places.Idle = Unit {0}
-IsAnswered (places.Access Naming) = Unit {0}
+abbrev pub IsAnswered : Point → Type 0
+IsAnswered points.Idle = Unit {0}
+IsAnswered (points.Access Naming) = Unit {0}
 IsAnswered _ = ⊥
 
 -- the history was once this long, and as long as a reply is to come the seat has got none since then
-pub record Began (history : List Entry) (number begun : ℕ) (place : Place) : Type 0 where
+pub record Began (history : List Entry) (number begun : ℕ) (point : Point) : Type 0 where
   pub earlier : begun ≤ length history
-  pub unanswered : ¬ IsAnswered place → list_any (is_reply_to number) (drop begun history) ≡ false
+  pub unanswered : ¬ IsAnswered point → list_any (is_reply_to number) (drop begun history) ≡ false

@@ -5,9 +5,9 @@ use Rattle.heap_model.specs.declared.id.Value.{Value}
 use Rattle.heap_model.specs.declared.id.Value.TheVariants as values
 use Rattle.heap_model.specs.graph.Objects.{register_value}
 use Rattle.heap_model.specs.graph.Graph.{Graph}
-use Rattle.core_machine.specs.declared.place.Place.{Place}
-use Rattle.core_machine.specs.declared.place.Place.TheVariants as places
-use Rattle.core_machine.specs.declared.place.Access.TheVariants.{Naming}
+use Rattle.core_machine.specs.declared.point.Point.{Point}
+use Rattle.core_machine.specs.declared.point.Point.TheVariants as points
+use Rattle.core_machine.specs.declared.point.Access.TheVariants.{Naming}
 use Rattle.core_machine.specs.declared.seat.register.Register.{Register}
 use Rattle.core_machine.specs.declared.seat.register.Register.TheVariants as registers
 use Rattle.core_rule.specs.owners.Owners.{Owner}
@@ -22,11 +22,11 @@ HoldsValue made owner fragments (registers.Object head id) value =
     (value ≡ values.Object id) × NamesKept made owner fragments (values.Object id) × (head ≡ object_head made fragments id)
 
 -- the register is that of a get that has loaded a reference and awaits the object's name
-abbrev pub IsAwaited : Place → ℕ → ℕ → Type 0
-IsAwaited (places.Access Naming) d r = r ≡ d
+abbrev pub IsAwaited : Point → ℕ → ℕ → Type 0
+IsAwaited (points.Access Naming) d r = r ≡ d
 IsAwaited _ d r = ⊥
 
 -- each register of the seat holds its value in the graph, but for one that is awaited
-abbrev pub Registers : Graph → List Id → (ℕ → Owner) → (ℕ → List ℕ) → ℕ → List Register → Place → ℕ → Type 0
-Registers g made owner fragments number held place d =
-    (r : ℕ) → ¬ IsAwaited place d r → HoldsValue made owner fragments (slice_index_or held r registers.Nil) (register_value g number r)
+abbrev pub Registers : Graph → List Id → (ℕ → Owner) → (ℕ → List ℕ) → ℕ → List Register → Point → ℕ → Type 0
+Registers g made owner fragments number held point d =
+    (r : ℕ) → ¬ IsAwaited point d r → HoldsValue made owner fragments (slice_index_or held r registers.Nil) (register_value g number r)

@@ -25,15 +25,15 @@ pub record AreAlike (one other : GraphSeat) : Type 0 where
 
 -- the graphs have as many seats, boards of the same shape, and the same of this seat
 pub record AgreeOn (number : ℕ) (one other : Graph) : Type 0 where
-  pub places : length one.seats ≡ length other.seats
+  pub positions : length one.seats ≡ length other.seats
   pub board : shape_of one.board ≡ shape_of other.board
   pub seat : AreAlike (graph_seat one number) (graph_seat other number)
 
 -- the one graph has of the seat what the other has, and no object that another seat made
-pub record IsSeatsPart (number : ℕ) (own whole : Graph) : Type 0 where
+pub record IsSeatsSubgraph (number : ℕ) (own whole : Graph) : Type 0 where
   pub agrees : AgreeOn number own whole
   pub others : (other : ℕ) → other ≢ number → (graph_seat own other).objects ≡ []
 
 -- after every history the graph of a seat's own entries has of the seat what the graph of all entries has
-unfoldable pub EachOwnGraphIsPart : Type 0
-EachOwnGraphIsPart = (heap : Heap) (history : List Entry) (number : ℕ) → IsSeatsPart number (graph_of heap (filter (is_of number) history)) (graph_of heap history)
+unfoldable pub EachOwnGraphIsWithin : Type 0
+EachOwnGraphIsWithin = (heap : Heap) (history : List Entry) (number : ℕ) → IsSeatsSubgraph number (graph_of heap (filter (is_of number) history)) (graph_of heap history)

@@ -51,7 +51,7 @@ pub record IsLeftBehind (heap : Heap) (next : Spot) (phase : ℕ) (stage : Stage
 -- the visit has yet to come to the fragment, which was marked when it began
 abbrev pub IsToVisit : Visit → ℕ → Type 0
 IsToVisit visit f =
-    (visit.group < f / group_fragments) ⊎ ((visit.group ≡ f / group_fragments) × (visit.place ≤ f % group_fragments) × (bit_at visit.marked (f % group_fragments) ≡ 1))
+    (visit.group < f / group_fragments) ⊎ ((visit.group ≡ f / group_fragments) × (visit.position ≤ f % group_fragments) × (bit_at visit.marked (f % group_fragments) ≡ 1))
 
 -- copying has yet to come to the fragment, or stands at it
 abbrev pub AwaitsVisit : Copying → ℕ → Type 0
@@ -91,7 +91,7 @@ pub record HalvesStand (heap : Heap) (state : State) (book : Book) : Type 0 wher
   pub arrays : (i : ℕ) → i < length book.made → IsKept book.owner book.fragments i → (node_at (graph_of heap book.history) book.made i).array ≡ true
       → ((book.spines i).half ≡ (next_spine heap state.words).half) ⊎ AwaitsCopy state.collector.phase state.collector.stage (fragment_at (book.fragments i) 0)
   -- a seat's new spine may stand there until the seat answers the phase of copying
-  pub hands : (number : ℕ) → number < heap.seats → HasPlace (seat_at state number) (seat_at state number).place
+  pub hands : (number : ℕ) → number < heap.seats → HasPlace (seat_at state number) (seat_at state number).point
       → ((seat_at state number).spine.half ≡ (next_spine heap state.words).half) ⊎ IsEarlyRange state.collector.phase state.collector.stage (seat_at state number).answered
   -- the spine of an array that has swung in this phase stands there no longer
   pub swung : state.collector.phase % cycle_phases ≡ copying_phase → (i : ℕ) → i < length book.made → IsKept book.owner book.fragments i → HasSwung (id_at book.made i) book.history

@@ -1,10 +1,10 @@
 -- What is held: what a seat owns, what its registers and its call name, and all that this leads to.
 use Rattle.std.specs.Prelude.{◌≡◌, ℕ, ◌+◌, ◌<◌, ◌≤◌, ◌⊎◌, Some}
 use Rattle.heap_model.specs.declared.heap.Heap.{Heap}
-use Rattle.core_machine.specs.declared.place.Place.{Place}
-use Rattle.core_machine.specs.declared.place.Place.TheVariants as places
-use Rattle.core_machine.specs.declared.place.Access.{Access}
-use Rattle.core_machine.specs.declared.place.Access.TheVariants.{Naming}
+use Rattle.core_machine.specs.declared.point.Point.{Point}
+use Rattle.core_machine.specs.declared.point.Point.TheVariants as points
+use Rattle.core_machine.specs.declared.point.Access.{Access}
+use Rattle.core_machine.specs.declared.point.Access.TheVariants.{Naming}
 use Rattle.core_machine.specs.machine.Machine.{State, seat_at}
 use Rattle.core_machine.specs.seat.Commands.{target_of}
 use Rattle.core_machine.specs.seat.Registers.{register_in, register_head}
@@ -22,7 +22,7 @@ OwnsFragment seat f = 1 ≤ tally f seat.reserve + tally f seat.hand + tally f s
 -- a register holds the object that begins with this fragment; one that awaits the name of another object doesn't count
 pub record IsInRegister (seat : Seat) (f : ℕ) : Type 0 where
   pub register : ℕ
-  pub counts : ¬ IsAwaited seat.place (target_of seat.command) register
+  pub counts : ¬ IsAwaited seat.point (target_of seat.command) register
   pub holds : register_head (register_in seat.registers register) ≡ Some f
 
 -- a call on a field holds what it has reached and the object that it has loaded; while it awaits a name, that object alone
@@ -31,13 +31,13 @@ AccessHolds seat Naming f = head_of seat.loaded ≡ Some f
 AccessHolds seat _ f = (f ≡ seat.reached) ⊎ (head_of seat.loaded ≡ Some f)
 
 -- a call on a field holds what it has reached and loaded, and no other call holds anything
-abbrev pub CallHolds : Seat → Place → ℕ → Type 0
-CallHolds seat (places.Access place) f = AccessHolds seat place f
+abbrev pub CallHolds : Seat → Point → ℕ → Type 0
+CallHolds seat (points.Access point) f = AccessHolds seat point f
 CallHolds seat _ f = ⊥
 
 -- a seat holds what it owns, what its registers hold, and what its call holds
 abbrev pub SeatHolds : Seat → ℕ → Type 0
-SeatHolds seat f = OwnsFragment seat f ⊎ (IsInRegister seat f ⊎ CallHolds seat seat.place f)
+SeatHolds seat f = OwnsFragment seat f ⊎ (IsInRegister seat f ⊎ CallHolds seat seat.point f)
 
 -- a fragment is held where one of the heap's seats holds it, or where a source of a held and born fragment leads to it
 pub data IsHeld (heap : Heap) (state : State) : ℕ → Type 0 where

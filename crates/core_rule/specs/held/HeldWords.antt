@@ -22,12 +22,12 @@ pub record IsAmong (spine : Spot) (words half offset : ℕ) : Type 0 where
 
 -- the seat has the spine word in its hand: its call has claimed it for the spine that it makes
 pub record IsInHandOf (state : State) (number half offset : ℕ) : Type 0 where
-  pub has : HasPlace (seat_at state number) (seat_at state number).place
+  pub has : HasPlace (seat_at state number) (seat_at state number).point
   pub among : IsAmong (seat_at state number).spine (spine_need (seat_at state number)) half offset
 
 -- the seat's call, which isn't over, has loaded the place of a spine with this word: that of the array in the call's register
 pub record IsLoadedBy (heap : Heap) (state : State) (number half offset : ℕ) : Type 0 where
-  pub loaded : HasLoaded (seat_at state number).place
+  pub loaded : HasLoaded (seat_at state number).point
   pub sentinel : ℕ
   pub calls : CallsObject (seat_at state number) sentinel
   pub among : IsAmong (seat_at state number).address (spine_words_in (at heap state.words (Word sentinel 0))) half offset

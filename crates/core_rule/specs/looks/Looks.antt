@@ -5,11 +5,11 @@ use Rattle.heap_model.specs.declared.heap.Heap.{Heap}
 use Rattle.heap_model.specs.account.PhaseCounts.{phase, last_answer, has_left}
 use Rattle.heap_model.specs.account.Phases.{WasBehind}
 use Rattle.heap_model.specs.account.Windows.{up_to_reply}
-use Rattle.core_machine.specs.declared.place.Access.TheVariants.{Naming}
-use Rattle.core_machine.specs.declared.place.Collecting.{Collecting}
-use Rattle.core_machine.specs.declared.place.Collecting.TheVariants.{Looking, Asking, Comparing, Noting}
-use Rattle.core_machine.specs.declared.place.Place.{Place}
-use Rattle.core_machine.specs.declared.place.Place.TheVariants as places
+use Rattle.core_machine.specs.declared.point.Access.TheVariants.{Naming}
+use Rattle.core_machine.specs.declared.point.Collecting.{Collecting}
+use Rattle.core_machine.specs.declared.point.Collecting.TheVariants.{Looking, Asking, Comparing, Noting}
+use Rattle.core_machine.specs.declared.point.Point.{Point}
+use Rattle.core_machine.specs.declared.point.Point.TheVariants as points
 use Rattle.core_machine.specs.machine.Machine.{State, seat_at}
 use Rattle.core_machine.specs.declared.seat.looks.Looks.{Looks}
 use Rattle.heap_model.specs.declared.behind.Behind.{Behind}
@@ -43,28 +43,28 @@ pub record HasCompared (heap : Heap) (history : List Entry) (number other p : �
   pub behind : has_left other history ≡ false → last_answer other history < p
       → (p ≡ last_answer other history + 1) × WasBehind number other (last_answer other history) p history
 
--- what is known of the other seat at each place of an inner call
+-- what is known of the other seat at each point of an inner call
 abbrev pub CollectingStands : Heap → List Entry → ℕ → Collecting → Type 0
 CollectingStands heap history number Looking = Unit {0}
 CollectingStands heap history number (Asking other) = IsOther heap number other
 CollectingStands heap history number (Comparing other p) = HasCompared heap history number other p
 CollectingStands heap history number (Noting reply) = Unit {0}
 
--- what holds at the places of an inner call
-abbrev pub WhileCollecting : (Collecting → Type 0) → Place → Type 0
-WhileCollecting P (places.Collecting place) = P place
+-- what holds at the points of an inner call
+abbrev pub WhileCollecting : (Collecting → Type 0) → Point → Type 0
+WhileCollecting P (points.Collecting point) = P point
 WhileCollecting P _ = Unit {0}
 
 -- what a seat has found out by its inner calls was so, and it knows what it is to know of the seat that it asks
-pub record LooksStand (heap : Heap) (history : List Entry) (number : ℕ) (place : Place) (looks : Looks) : Type 0 where
+pub record LooksStand (heap : Heap) (history : List Entry) (number : ℕ) (point : Point) (looks : Looks) : Type 0 where
   -- the phase that it loaded last has begun
   pub seen : looks.seen ≤ phase history
   -- while a get's name is awaited its reply stands in the history already, and it has yet to forget what it found before
-  pub found : place ≢ places.Access Naming → FoundSince heap history number looks
-  pub asks : WhileCollecting (CollectingStands heap history number) place
+  pub found : point ≢ points.Access Naming → FoundSince heap history number looks
+  pub asks : WhileCollecting (CollectingStands heap history number) point
   -- another seat's word is compared with the phase that it loaded last
-  pub compares : (other p : ℕ) → place ≡ places.Collecting (Comparing other p) → p ≡ looks.seen
+  pub compares : (other p : ℕ) → point ≡ points.Collecting (Comparing other p) → p ≡ looks.seen
 
 -- what each seat has found out by its inner calls was so
 abbrev pub AllLooksStand : Heap → State → List Entry → Type 0
-AllLooksStand heap state history = (number : ℕ) → number < heap.seats → LooksStand heap history number (seat_at state number).place (seat_at state number).looks
+AllLooksStand heap state history = (number : ℕ) → number < heap.seats → LooksStand heap history number (seat_at state number).point (seat_at state number).looks

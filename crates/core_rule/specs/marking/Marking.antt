@@ -20,16 +20,16 @@ use Rattle.core_rule.specs.marking.Paths.{IsWhite}
 use Rattle.core_rule.specs.marking.Sources.{TellsNoSpine}
 use Rattle.core_rule.specs.marking.Sweep.{IsSettled, SweepStands}
 
--- the fragment is part of a kept object
-pub record IsPart (owner : ℕ → Owner) (f : ℕ) : Type 0 where
+-- the fragment is one of a kept object
+pub record IsKeptFragment (owner : ℕ → Owner) (f : ℕ) : Type 0 where
   pub index : ℕ
-  pub place : ℕ
-  pub kept : owner f ≡ Kept index place
+  pub position : ℕ
+  pub kept : owner f ≡ Kept index position
 
 -- a fragment that may be marked: a kept object's first one, or one whose object's first is marked
 pub record MayMark (owner : ℕ → Owner) (colour : ℕ → Colour) (fragments : ℕ → List ℕ) (f : ℕ) : Type 0 where
-  pub part : IsPart owner f
-  pub first : (part.place ≡ 0) ⊎ IsMarked colour (fragment_at (fragments part.index) 0)
+  pub kept_fragment : IsKeptFragment owner f
+  pub first : (kept_fragment.position ≡ 0) ⊎ IsMarked colour (fragment_at (fragments kept_fragment.index) 0)
 
 -- the fragment is grey, and its sources before this one lead to marked ones alone
 pub record IsSeen (heap : Heap) (words : List ℕ) (colour : ℕ → Colour) (f source : ℕ) : Type 0 where
@@ -99,8 +99,8 @@ pub record AfterMarking (owner : ℕ → Owner) (colour : ℕ → Colour) : Type
 
 -- what is true of marking, of the sweep and of the clearing at this stage
 pub record MarkingStands (heap : Heap) (words : List ℕ) (owner : ℕ → Owner) (colour : ℕ → Colour) (fragments : ℕ → List ℕ) (phase : ℕ) (stage : Stage) : Type 0 where
-  -- what is grey is part of a kept object
-  pub grey : (f : ℕ) → colour f ≡ Grey → IsPart owner f
+  -- what is grey is a fragment of a kept object
+  pub grey : (f : ℕ) → colour f ≡ Grey → IsKeptFragment owner f
   pub scan : ScanStands heap words owner colour fragments stage
   pub few : IsFewWords stage
   pub pass : PassStands colour stage

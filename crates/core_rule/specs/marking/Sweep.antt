@@ -31,12 +31,12 @@ AreFreed owner group = (f i k : ℕ) → f / group_fragments < group → owner f
 
 -- these bits are set for those of the group's fragments that are to be freed
 abbrev pub AreDead : (ℕ → Owner) → ℕ → ℕ → Type 0
-AreDead owner group bits = (place : ℕ) → place < group_fragments → bit_at bits place ≡ dead_bit (owner (group_fragments * group + place))
+AreDead owner group bits = (position : ℕ) → position < group_fragments → bit_at bits position ≡ dead_bit (owner (group_fragments * group + position))
 
 -- the object has a right size, and the word tells all of its spine words in its first fragment, and none in a later one
-pub record TellsWords (object : Node) (part word : ℕ) : Type 0 where
+pub record TellsWords (object : Node) (position word : ℕ) : Type 0 where
   pub sized : IsSized object.array (length object.cells)
-  pub told : spine_words_in word ≡ (if part == 0 then spine_words_of object else 0)
+  pub told : spine_words_in word ≡ (if position == 0 then spine_words_of object else 0)
 
 -- the first word of each fragment that is to be freed tells the spine words of its object, which was made
 abbrev pub DeadTell : Heap → List ℕ → ℕ → (ℕ → Node) → (ℕ → Owner) → Type 0
@@ -49,7 +49,7 @@ AreCleared colour group = (f : ℕ) → f / group_fragments < group → colour f
 -- how far the sweep and the clearing are at each of their stages
 abbrev pub SweepStands : Heap → (ℕ → Owner) → (ℕ → Colour) → ℕ → Stage → Type 0
 SweepStands heap owner colour phase (stages.Sweeping group) = AreFreed owner group
-SweepStands heap owner colour phase (stages.Examining group dead place words) = AreFreed owner group × AreDead owner group dead
+SweepStands heap owner colour phase (stages.Examining group dead position words) = AreFreed owner group × AreDead owner group dead
 SweepStands heap owner colour phase (stages.Freeing group dead words) = AreFreed owner group × AreDead owner group dead
 SweepStands heap owner colour phase (stages.Returning group words) = AreFreed owner (group + 1)
 SweepStands heap owner colour phase (stages.Clearing group kept) = AreCleared colour group

@@ -15,9 +15,9 @@ pub data Owner : Type 0 where
   -- a seat's that has borne it for the object that it makes
   Borne : (seat : ℕ) → Owner
   -- a kept object's, by the object's number in the order of making
-  Kept : (object part : ℕ) → Owner
+  Kept : (object position : ℕ) → Owner
   -- that of an object that is to be freed
-  Dead : (object part : ℕ) → Owner
+  Dead : (object position : ℕ) → Owner
 
 -- whether the fragment is taken
 abbrev pub taken_bit : Owner → ℕ

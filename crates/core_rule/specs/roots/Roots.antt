@@ -3,8 +3,8 @@ use Rattle.std.specs.Prelude.{◌≡◌, ℕ, ◌%◌, List, IfSome}
 use Rattle.heap_model.specs.declared.heap.Heap.{Heap}
 use Rattle.heap_model.specs.PhasePlan.{cycle_phases, marking}
 use Rattle.core_machine.specs.collector.Collector.{Collector}
-use Rattle.core_machine.specs.declared.place.Access.{Access}
-use Rattle.core_machine.specs.declared.place.Access.TheVariants.{Naming, ShadingOld}
+use Rattle.core_machine.specs.declared.point.Access.{Access}
+use Rattle.core_machine.specs.declared.point.Access.TheVariants.{Naming, ShadingOld}
 use Rattle.core_machine.specs.seat.Registers.{register_in, register_head}
 use Rattle.core_machine.specs.seat.Seat.{Seat}
 use Rattle.heap_words.specs.Loaded.{head_of}
@@ -28,7 +28,7 @@ AtCall P seat _ = P seat.reached
 -- `P` holds of each root of a seat: of the objects in its registers, and of what its call has reached and loaded
 pub record OfRoots (P : ℕ → Type 0) (seat : Seat) : Type 0 where
   pub registers : (r : ℕ) → IfSome (register_head (register_in seat.registers r)) P
-  pub call : WhileAccess (AtCall P seat) seat.place
+  pub call : WhileAccess (AtCall P seat) seat.point
 
 -- until marking has ended it comes to each root of a seat that has answered its phase
 abbrev pub RootsAreReached : Heap → List ℕ → (ℕ → Owner) → (ℕ → Colour) → Collector → Seat → Type 0

@@ -13,7 +13,7 @@ use Rattle.heap_model.specs.account.Phases.{IsBehind}
 use Rattle.heap_model.specs.account.Space.{fragments_gained, fragments_lost, words_granted, words_returned}
 use Rattle.heap_model.specs.declared.calls.collector_calls.Turn.TheVariants.{Waits}
 use Rattle.heap_model.specs.calls.CollectorCalls.{CollectorState, ComesTo}
-use Rattle.core_machine.specs.declared.place.Place.TheVariants.{Idle}
+use Rattle.core_machine.specs.declared.point.Point.TheVariants.{Idle}
 use Rattle.core_machine.specs.machine.Calls.{free_count}
 use Rattle.core_machine.specs.collector.Collector.{next_turn}
 use Rattle.core_machine.specs.declared.collector.stage.Stage.TheVariants as stages
@@ -55,11 +55,11 @@ EveryRunKeeps = (heap : Heap) (state : State) (events : List Event) → IsHeap h
 
 -- no other seat has a call in flight
 abbrev pub IsAlone : State → ℕ → Type 0
-IsAlone state number = (other : ℕ) → other < length state.seats → other ≢ number → (seat_at state other).place ≡ Idle
+IsAlone state number = (other : ℕ) → other < length state.seats → other ≢ number → (seat_at state other).point ≡ Idle
 
 -- no seat has a call in flight
 abbrev pub AllIdle : State → Type 0
-AllIdle state = (number : ℕ) → number < length state.seats → (seat_at state number).place ≡ Idle
+AllIdle state = (number : ℕ) → number < length state.seats → (seat_at state number).point ≡ Idle
 
 -- the other seat's word is `answer` now, and the phase is `p`
 pub record IsBehindNow (heap : Heap) (words : List ℕ) (other answer p : ℕ) : Type 0 where
@@ -107,17 +107,17 @@ EachWaitIsBehind = (heap : Heap) (state : State) (book : Book) (seat answer p : 
 -- the fragment is an object's that is to be freed, and the word tells its spine words exactly where an array begins there
 pub record IsDeadTold (heap : Heap) (book : Book) (f word : ℕ) : Type 0 where
   pub object : ℕ
-  pub part : ℕ
+  pub position : ℕ
   pub below : object < length book.made
-  pub dead : book.owner f ≡ Dead object part
-  pub told : spine_words_in word ≡ (if part == 0 then spine_words_of (node_at (graph_of heap book.history) book.made object) else 0)
-  pub some : part ≡ 0 → (node_at (graph_of heap book.history) book.made object).array ≡ true → 0 < spine_words_in word
-  pub only : 0 < spine_words_in word → (part ≡ 0) × ((node_at (graph_of heap book.history) book.made object).array ≡ true)
+  pub dead : book.owner f ≡ Dead object position
+  pub told : spine_words_in word ≡ (if position == 0 then spine_words_of (node_at (graph_of heap book.history) book.made object) else 0)
+  pub some : position ≡ 0 → (node_at (graph_of heap book.history) book.made object).array ≡ true → 0 < spine_words_in word
+  pub only : 0 < spine_words_in word → (position ≡ 0) × ((node_at (graph_of heap book.history) book.made object).array ≡ true)
 
 -- each fragment that the sweep examines is to be freed, and the word that its turn finds tells its array's spine words
 abbrev pub EachDeadIsTold : Type 0
-EachDeadIsTold = (heap : Heap) (state : State) (book : Book) (group dead place words : ℕ) → Rule heap state book → state.collector.stage ≡ stages.Examining group dead place words
-    → IsDeadTold heap book (group_fragments * group + place) (found_by heap state (next_turn heap state.collector).step)
+EachDeadIsTold = (heap : Heap) (state : State) (book : Book) (group dead position words : ℕ) → Rule heap state book → state.collector.stage ≡ stages.Examining group dead position words
+    → IsDeadTold heap book (group_fragments * group + position) (found_by heap state (next_turn heap state.collector).step)
 
 -- the collector's entries and its phase are those that the history tells
 pub record IsToldBy (history : List Entry) (collector : CollectorState) : Type 0 where

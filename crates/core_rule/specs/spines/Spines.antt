@@ -5,9 +5,9 @@ use Rattle.heap_words.specs.Spot.{spot_in, spot_word}
 use Rattle.heap_model.specs.declared.heap.Heap.{Heap}
 use Rattle.heap_model.specs.graph.Graph.{Node}
 use Rattle.heap_model.specs.graph.Sizes.{spine_words_of}
-use Rattle.core_machine.specs.declared.place.Making.TheVariants.{Listing, Storing, Bearing}
-use Rattle.core_machine.specs.declared.place.Place.{Place}
-use Rattle.core_machine.specs.declared.place.Place.TheVariants as places
+use Rattle.core_machine.specs.declared.point.Making.TheVariants.{Listing, Storing, Bearing}
+use Rattle.core_machine.specs.declared.point.Point.{Point}
+use Rattle.core_machine.specs.declared.point.Point.TheVariants as points
 use Rattle.core_machine.specs.declared.table.address.Address.TheVariants as addresses
 use Rattle.core_machine.specs.seat.Commands.{IsArrayCall}
 use Rattle.core_machine.specs.seat.Seat.{Seat, spine_need}
@@ -41,14 +41,14 @@ pub record SpinesStand (heap : Heap) (words : List ℕ) (seats made : ℕ) (node
   pub tells : DeadTell heap words made nodes owner
 
 -- a spine has its place while its words and those of its array are stored, and until the array is whole
-abbrev pub HasPlace : Seat → Place → Type 0
-HasPlace seat (places.Making Listing) = IsArrayCall seat.command
-HasPlace seat (places.Making Storing) = IsArrayCall seat.command
-HasPlace seat (places.Making Bearing) = IsArrayCall seat.command
+abbrev pub HasPlace : Seat → Point → Type 0
+HasPlace seat (points.Making Listing) = IsArrayCall seat.command
+HasPlace seat (points.Making Storing) = IsArrayCall seat.command
+HasPlace seat (points.Making Bearing) = IsArrayCall seat.command
 HasPlace seat _ = ⊥
 
 -- the seat has exactly the words of the spine that it makes, once that has its place, and has stored the first ones
 pub record SpineInHand (heap : Heap) (words : List ℕ) (spine_owner : ℕ → ℕ → SpineOwner) (number : ℕ) (seat : Seat) : Type 0 where
-  pub placed : HasPlace seat seat.place → (j : ℕ) → j < spine_need seat → spine_owner seat.spine.half (seat.spine.offset + j) ≡ Placed number j
-  pub own : (half offset j : ℕ) → spine_owner half offset ≡ Placed number j → HasPlace seat seat.place × (j < spine_need seat) × IsWordOf seat.spine half offset j
-  pub stored : HasPlace seat seat.place → (j : ℕ) → j < seat.listed → at heap words (spine_place seat.spine j) ≡ spine_word (fragment_at seat.body (j + 1))
+  pub placed : HasPlace seat seat.point → (j : ℕ) → j < spine_need seat → spine_owner seat.spine.half (seat.spine.offset + j) ≡ Placed number j
+  pub own : (half offset j : ℕ) → spine_owner half offset ≡ Placed number j → HasPlace seat seat.point × (j < spine_need seat) × IsWordOf seat.spine half offset j
+  pub stored : HasPlace seat seat.point → (j : ℕ) → j < seat.listed → at heap words (spine_place seat.spine j) ≡ spine_word (fragment_at seat.body (j + 1))

@@ -54,7 +54,7 @@ TellsWord heap number seat _ found = Unit {0}
 -- what is told at a seat's due step that found this word: of the word, and of what a call on an object has reached before it
 pub record TellsFound (heap : Heap) (number : ℕ) (seat : Seat) (found : ℕ) : Type 0 where
   pub word : IfSome (due_step heap number seat) (λ step. TellsWord heap number seat step found)
-  pub reached : WhileAccess (ReachesInBook heap number seat found) seat.place
+  pub reached : WhileAccess (ReachesInBook heap number seat found) seat.point
 
 -- from any state that a book stands for, so much is told at each seat's due step
 unfoldable pub EachFoundIsTold : Type 0

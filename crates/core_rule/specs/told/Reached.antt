@@ -6,8 +6,8 @@ use Rattle.heap_model.specs.declared.heap.Heap.{Heap}
 use Rattle.heap_model.specs.declared.id.Value.TheVariants as values
 use Rattle.heap_model.specs.graph.Graph.{Node}
 use Rattle.heap_model.specs.graph.Objects.{register_value}
-use Rattle.core_machine.specs.declared.place.Access.{Access}
-use Rattle.core_machine.specs.declared.place.Access.TheVariants.{LoadingMeta, Walking, LoadingSpot, Indexing, Getting, Naming, LoadingOld, ShadingOld, ShadingNew, Swapping}
+use Rattle.core_machine.specs.declared.point.Access.{Access}
+use Rattle.core_machine.specs.declared.point.Access.TheVariants.{LoadingMeta, Walking, LoadingSpot, Indexing, Getting, Naming, LoadingOld, ShadingOld, ShadingNew, Swapping}
 use Rattle.core_machine.specs.declared.seat.register.Register.TheVariants.{Object}
 use Rattle.core_machine.specs.machine.Machine.{State, seat_at, found_by}
 use Rattle.core_machine.specs.Moves.{due_step}
@@ -72,7 +72,7 @@ pub record AwaitsName (heap : Heap) (book : Book) (number : ℕ) (seat : Seat) :
   pub loads : head_of seat.loaded ≡ Some (fragment_at (book.fragments object) 0)
   pub held : register_value (graph_of heap book.history) number (target_of seat.command) ≡ values.Object (id_at book.made object)
 
--- what the call has reached at each place of access
+-- what the call has reached at each point of access
 abbrev pub ReachesOwn : Heap → Book → ℕ → Seat → Access → Type 0
 ReachesOwn heap book number seat LoadingMeta = ReachesObject heap book number seat
 ReachesOwn heap book number seat Walking = ReachesRow heap book number seat seat.links
@@ -85,26 +85,26 @@ ReachesOwn heap book number seat ShadingOld = IsFieldPlace heap book number seat
 ReachesOwn heap book number seat ShadingNew = IsFieldPlace heap book number seat
 ReachesOwn heap book number seat Swapping = IsFieldPlace heap book number seat
 
--- in any state for which a book stands each call on an object has reached its own at its place
+-- in any state for which a book stands each call on an object has reached its own at its point
 unfoldable pub EachReachesOwn : Type 0
 EachReachesOwn = (heap : Heap) (state : State) (book : Book) (number : ℕ) → Rule heap state book → number < heap.seats
-    → WhileAccess (ReachesOwn heap book number (seat_at state number)) (seat_at state number).place
+    → WhileAccess (ReachesOwn heap book number (seat_at state number)) (seat_at state number).point
 
--- some book stands for a state in which the seat is this one, and there the call has reached this at the place
-pub record HasReached (heap : Heap) (number : ℕ) (seat : Seat) (place : Access) : Type 0 where
+-- some book stands for a state in which the seat is this one, and there the call has reached this at the point
+pub record HasReached (heap : Heap) (number : ℕ) (seat : Seat) (point : Access) : Type 0 where
   pub state : State
   pub book : Book
   pub stands : Stands heap state book
   pub here : seat_at state number ≡ seat
-  pub reaches : ReachesOwn heap book number seat place
+  pub reaches : ReachesOwn heap book number seat point
 
 -- where a name is awaited the word found is that of the object
-abbrev pub NamesReached : (heap : Heap) (book : Book) (number : ℕ) (seat : Seat) (found : ℕ) (place : Access) → ReachesOwn heap book number seat place → Type 0
+abbrev pub NamesReached : (heap : Heap) (book : Book) (number : ℕ) (seat : Seat) (found : ℕ) (point : Access) → ReachesOwn heap book number seat point → Type 0
 NamesReached heap book number seat found Naming awaits = id_of found ≡ id_at book.made awaits.object
 NamesReached heap book number seat found _ reaches = Unit {0}
 
 -- so it is where the seat's due step finds this word
-pub record ReachesInBook (heap : Heap) (number : ℕ) (seat : Seat) (found : ℕ) (place : Access) : Type 0 where
-  pub there : HasReached heap number seat place
+pub record ReachesInBook (heap : Heap) (number : ℕ) (seat : Seat) (found : ℕ) (point : Access) : Type 0 where
+  pub there : HasReached heap number seat point
   pub finds : IfSome (due_step heap number seat) (λ step. found ≡ found_by heap there.state step)
-  pub names : NamesReached heap there.book number seat found place there.reaches
+  pub names : NamesReached heap there.book number seat found point there.reaches

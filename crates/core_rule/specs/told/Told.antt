@@ -19,7 +19,7 @@ own_state heap number seat = record { heap = heap; number = number; mine = seat.
 
 -- the seat's registers, counts and last answer are those of its own list, but for a register whose object's name is awaited
 pub record IsAsTold (heap : Heap) (number : ℕ) (seat : Seat) : Type 0 where
-  pub registers : (r : ℕ) → ¬ IsAwaited seat.place (target_of seat.command) r → value_of (register_in seat.registers r) ≡ held_value (own_state heap number seat) r
+  pub registers : (r : ℕ) → ¬ IsAwaited seat.point (target_of seat.command) r → value_of (register_in seat.registers r) ≡ held_value (own_state heap number seat) r
   pub made : seat.made ≡ length (own_graph_seat (own_state heap number seat)).objects
   pub sets : seat.sets ≡ (own_graph_seat (own_state heap number seat)).sets
   pub left : seat.left ≡ (own_graph_seat (own_state heap number seat)).left

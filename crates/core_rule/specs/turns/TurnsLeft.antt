@@ -54,7 +54,7 @@ visit_most = 1 + group_fragments * copy_most
 
 -- what is left of copying where a visit comes to its fragment
 abbrev pub visit_left : ℕ → Visit → ℕ
-visit_left groups visit = visit_most * (groups - (visit.group + 1)) + copy_most * (group_fragments - visit.place)
+visit_left groups visit = visit_most * (groups - (visit.group + 1)) + copy_most * (group_fragments - visit.position)
 
 -- what is left at each stage of copying
 abbrev pub copying_left : ℕ → Copying → ℕ
@@ -88,7 +88,7 @@ stage_left heap words phase looked (stages.Blackening scan) = scanning_left heap
 stage_left heap words phase looked stages.Flipping = 1
 stage_left heap words phase looked (stages.Copying stage) = copying_left heap.groups stage
 stage_left heap words phase looked (stages.Sweeping group) = sweep_most * (heap.groups - group)
-stage_left heap words phase looked (stages.Examining group dead place counted) = sweep_most * (heap.groups - group) - (place + 1)
+stage_left heap words phase looked (stages.Examining group dead position counted) = sweep_most * (heap.groups - group) - (position + 1)
 stage_left heap words phase looked (stages.Freeing group dead counted) = sweep_most * (heap.groups - group) - group_fragments - 1
 stage_left heap words phase looked (stages.Returning group counted) = sweep_most * (heap.groups - group) - group_fragments - 2
 stage_left heap words phase looked (stages.Clearing group kept) = heap.groups - group

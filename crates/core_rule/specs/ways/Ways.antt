@@ -3,10 +3,10 @@ use Rattle.std.specs.Prelude.{◌≡◌, ℕ, ◌+◌, ◌/◌, ◌%◌, ◌<◌
 use Rattle.heap_model.specs.declared.command.Command.{Command}
 use Rattle.heap_model.specs.declared.id.Id.{Id}
 use Rattle.heap_model.specs.graph.Graph.{Node}
-use Rattle.core_machine.specs.declared.place.Place.{Place}
-use Rattle.core_machine.specs.declared.place.Place.TheVariants as places
-use Rattle.core_machine.specs.declared.place.Access.{Access}
-use Rattle.core_machine.specs.declared.place.Access.TheVariants.{LoadingMeta, Walking, LoadingSpot, Indexing, Getting, Naming, LoadingOld, ShadingOld, ShadingNew, Swapping}
+use Rattle.core_machine.specs.declared.point.Point.{Point}
+use Rattle.core_machine.specs.declared.point.Point.TheVariants as points
+use Rattle.core_machine.specs.declared.point.Access.{Access}
+use Rattle.core_machine.specs.declared.point.Access.TheVariants.{LoadingMeta, Walking, LoadingSpot, Indexing, Getting, Naming, LoadingOld, ShadingOld, ShadingNew, Swapping}
 use Rattle.core_machine.specs.declared.seat.register.Register.TheVariants.{Object}
 use Rattle.core_machine.specs.seat.Commands.{object_of, field_of}
 use Rattle.heap_words.specs.Loaded.{head_of}
@@ -70,7 +70,7 @@ pub record LoadedKept (made : List Id) (owner : ℕ → Owner) (fragments : ℕ 
 abbrev pub OldKept : List Id → (ℕ → Owner) → (ℕ → List ℕ) → Seat → Type 0
 OldKept made owner fragments seat = IsSome (head_of seat.loaded) → LoadedKept made owner fragments seat
 
--- what is true of the way at each place of access
+-- what is true of the way at each point of access
 abbrev pub AccessStands : (ℕ → Node) → List Id → (ℕ → Owner) → (ℕ → List ℕ) → Seat → Access → Type 0
 AccessStands nodes made owner fragments seat LoadingMeta = SetsOut made owner fragments seat
 AccessStands nodes made owner fragments seat Walking = Finds nodes made owner fragments seat
@@ -83,7 +83,7 @@ AccessStands nodes made owner fragments seat ShadingOld = Finds nodes made owner
 AccessStands nodes made owner fragments seat ShadingNew = Finds nodes made owner fragments seat × OldKept made owner fragments seat
 AccessStands nodes made owner fragments seat Swapping = Finds nodes made owner fragments seat × OldKept made owner fragments seat
 
--- what is true of a seat's way at its place
-abbrev pub WayStands : (ℕ → Node) → List Id → (ℕ → Owner) → (ℕ → List ℕ) → Seat → Place → Type 0
-WayStands nodes made owner fragments seat (places.Access place) = AccessStands nodes made owner fragments seat place
+-- what is true of a seat's way at its point
+abbrev pub WayStands : (ℕ → Node) → List Id → (ℕ → Owner) → (ℕ → List ℕ) → Seat → Point → Type 0
+WayStands nodes made owner fragments seat (points.Access point) = AccessStands nodes made owner fragments seat point
 WayStands nodes made owner fragments seat _ = Unit {0}

@@ -29,7 +29,7 @@ use Rattle.heap_model.specs.account.Noting.{IsCounted, IsNoted}
 use Rattle.heap_model.specs.account.Preparing.{IsPrepared, IsBegun, brought_by}
 use Rattle.heap_model.proofs.Histories.{graph_after-more, total-more}
 use Rattle.heap_model.proofs.graph_lemmas.MadeLemmas.{made_counts-after}
-use Rattle.heap_model.proofs.account_lemmas.Windows.{up_to_last-yes, up_to_last-no, after_last-yes, after_last-no, sum_of_window_parts}
+use Rattle.heap_model.proofs.account_lemmas.Windows.{up_to_last-yes, up_to_last-no, after_last-yes, after_last-no, sum_of_window_sections}
 use Rattle.heap_model.proofs.account_lemmas.Turns.{entry_turn_cases}
 use Rattle.heap_model.proofs.account_lemmas.Counting.{Counts, tells_seat_with_entry, tells_all_with_entry}
 
@@ -89,7 +89,7 @@ brings_is heap all seats number history told =
       told.own_then.born,
       told.solvent,
       told.richer,
-      sum_of_window_parts (is_reply_to number) (λ e. cond (is_of number e) (effect_of e).taken 0) history,
+      sum_of_window_sections (is_reply_to number) (λ e. cond (is_of number e) (effect_of e).taken 0) history,
     )
 
 -- a cycle that begins is told

@@ -20,7 +20,7 @@ use Rattle.heap_model.specs.account.Account.{KeepsSpace}
 use Rattle.heap_model.specs.account.Books.{Books, Tells, TellsCycle}
 use Rattle.heap_model.specs.account.SeatBooks.{account_at, first_behind, last_phase, IsFrom, TellsSeat}
 use Rattle.heap_model.specs.account.Noting.{IsNotedSeat, IsCounted, is_behind_now, seat_of}
-use Rattle.heap_model.proofs.account_lemmas.Windows.{any_with_entry_more, sum_of_window_parts, total_since_reply}
+use Rattle.heap_model.proofs.account_lemmas.Windows.{any_with_entry_more, sum_of_window_sections, total_since_reply}
 use Rattle.heap_model.proofs.account_lemmas.Noting.{entry_is_of_other}
 use Rattle.heap_model.proofs.account_lemmas.Turns.{entry_turn_cases, ended_cycles_with_entry, just_ended_by_entry}
 use Rattle.heap_model.proofs.account_lemmas.TellsMore.{all_measures_with_entry, own_measures_with_entry, reply_measures_with_entry, tells_since_reply}
@@ -44,7 +44,7 @@ from_numbers number answer history left answers now has gave here b = record { p
 
 -- what stays of a seat, whatever the entry
 pub record SeatStays (play : Bool) (old new : Books) (history : List Entry) (entry : Entry) (number : ℕ) : Type 0 where
-  pub own : IsMeasured (account_at new.seats number).own (λ part. total_of number part (history ++ entry ∷ []))
+  pub own : IsMeasured (account_at new.seats number).own (λ summand. total_of number summand (history ++ entry ∷ []))
   pub left : is_some (account_at new.seats number).left ≡ has_left number (history ++ entry ∷ [])
   pub step : SeatStep (account_at old.seats number).left (account_at old.seats number).own.answers old.all.phases (account_at new.seats number).left (account_at new.seats number).own.answers new.all.phases
 
@@ -161,9 +161,9 @@ tells_seat_with_entry play old new history entry c number lt =
     let noted = c.counted.seats number lt in
     let stays = seat_stays play old new history entry c number lt in
     let all = all_measures_with_entry old.all new.all history entry c.counted.all c.tells.all in
-    let own_then = reply_measures_with_entry number (λ part h. total_of number part h) (account_at old.seats number).own_then (account_at new.seats number).own (account_at new.seats number).own_then history entry noted.own_then stays.own told.own_then in
-    let all_then = reply_measures_with_entry number (λ part h. total part h) (account_at old.seats number).all_then (plus old.all (effect_of entry)) (account_at new.seats number).all_then history entry noted.all_then
-    (subst (λ x. IsMeasured x (λ part. total part (history ++ entry ∷ []))) c.counted.all all) told.all_then in
+    let own_then = reply_measures_with_entry number (λ summand h. total_of number summand h) (account_at old.seats number).own_then (account_at new.seats number).own (account_at new.seats number).own_then history entry noted.own_then stays.own told.own_then in
+    let all_then = reply_measures_with_entry number (λ summand h. total summand h) (account_at old.seats number).all_then (plus old.all (effect_of entry)) (account_at new.seats number).all_then history entry noted.all_then
+    (subst (λ x. IsMeasured x (λ summand. total summand (history ++ entry ∷ []))) c.counted.all all) told.all_then in
     record {
       own = stays.own;
       own_then = own_then;
@@ -171,7 +171,7 @@ tells_seat_with_entry play old new history entry c number lt =
       since = tells_since_reply new.all number (account_at new.seats number) (history ++ entry ∷ []) all stays.own own_then all_then;
       left = stays.left;
       solvent = solvent (is_reply_to number entry) refl noted stays told;
-      richer = omega (arith, own_then.taken, stays.own.taken, sum_of_window_parts (is_reply_to number) (λ e. cond (is_of number e) (effect_of e).taken 0) (history ++ entry ∷ []));
+      richer = omega (arith, own_then.taken, stays.own.taken, sum_of_window_sections (is_reply_to number) (λ e. cond (is_of number e) (effect_of e).taken 0) (history ++ entry ∷ []));
       earlier = omega (arith, all_then.phases, all.phases, total_since_reply number (λ e. e.phases) (history ++ entry ∷ []));
       kept_up = kept_up _ _ _ _ _ _ stays.step told.kept_up;
       gone = gone_phase_within_phase (is_leave_of number entry) (account_at old.seats number).left (account_at new.seats number).left old.all.phases new.all.phases noted.left (omega (arith, phases_grow old new entry c.counted)) told.gone;

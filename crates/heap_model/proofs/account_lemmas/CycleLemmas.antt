@@ -15,7 +15,7 @@ use Rattle.heap_model.specs.account.Windows.{begins_cycle, up_to_cycle, since_cy
 use Rattle.heap_model.specs.account.Cycles.{graph_of, IsReachOfBoth, LeavesWithinBounds, KeepsReached}
 use Rattle.heap_model.specs.account.Books.{Books, Tells, TellsCycle}
 use Rattle.heap_model.specs.account.Preparing.{IsWithinBy}
-use Rattle.heap_model.proofs.account_lemmas.Windows.{sum_of_window_parts}
+use Rattle.heap_model.proofs.account_lemmas.Windows.{sum_of_window_sections}
 use Rattle.heap_model.proofs.graph_lemmas.Among.{ordered_same_ids_equal}
 use Rattle.heap_model.proofs.graph_lemmas.InOrder.{ids_can_be_ordered}
 
@@ -90,10 +90,10 @@ within_bounds_by_books books history kept t some = (to, from)
     spines begun reach = sum_of_reach (spine_words_at g) g books.cycle.reached.items begun told.reached reach ∙ sym told.words
 
     taken : total (λ e. e.taken) (since_cycle history) ≡ books.all.taken - books.cycle.taken_then
-    taken = omega (arith, sum_of_window_parts begins_cycle (λ e. (effect_of e).taken) history, told.taken, t.all.taken)
+    taken = omega (arith, sum_of_window_sections begins_cycle (λ e. (effect_of e).taken) history, told.taken, t.all.taken)
 
     words : words_granted (since_cycle history) ≡ books.all.words - books.cycle.words_then
-    words = omega (arith, sum_of_window_parts begins_cycle (λ e. (effect_of e).words) history, told.granted, t.all.words)
+    words = omega (arith, sum_of_window_sections begins_cycle (λ e. (effect_of e).words) history, told.granted, t.all.words)
 
     to : IsWithinBy books kept → LeavesWithinBounds books.heap history kept
     to within begun reach = record {

@@ -16,7 +16,7 @@ use Rattle.heap_model.specs.account.Phases.{IsBehind, WasBehind}
 use Rattle.heap_model.specs.account.PhaseCounts.{phase}
 use Rattle.heap_model.specs.account.Account.{MakesOfOwn}
 use Rattle.heap_model.proofs.Histories.{total_of-more}
-use Rattle.heap_model.proofs.account_lemmas.Windows.{window_parts_make_whole, up_to_last-yes, up_to_last-no, after_last-yes, after_last-no}
+use Rattle.heap_model.proofs.account_lemmas.Windows.{window_sections_make_whole, up_to_last-yes, up_to_last-no, after_last-yes, after_last-no}
 use Rattle.heap_model.proofs.account_lemmas.Snoc.{front_of_snoc_cases}
 use Rattle.heap_model.proofs.account_lemmas.Turns.{Advances, Finishes, Stays}
 
@@ -124,7 +124,7 @@ was_behind_with_entry number other answer p history entry fails = (to, from)
     same = up_to_last-no (is_reply_to number) history entry fails
 
     whole : up_to_reply number (history ++ entry ∷ []) ++ (since_reply number history ++ entry ∷ []) ≡ history ++ entry ∷ []
-    whole = ap (λ es. up_to_reply number (history ++ entry ∷ []) ++ es) (sym more) ∙ window_parts_make_whole (is_reply_to number) (history ++ entry ∷ [])
+    whole = ap (λ es. up_to_reply number (history ++ entry ∷ []) ++ es) (sym more) ∙ window_sections_make_whole (is_reply_to number) (history ++ entry ∷ [])
 
     to : WasBehind number other answer p (history ++ entry ∷ []) → WasBehind number other answer p history ⊎ IsBehind other answer p (history ++ entry ∷ [])
     to w = elim (front_of_snoc_cases w.0 w.1 (since_reply number history) entry (sym more ∙ w.2)) [
@@ -139,4 +139,4 @@ was_behind_with_entry number other answer p history entry fails = (to, from)
 -- a seat that is behind at the end was so since the reply
 pub behind_at_end_was_behind : (number other answer p : ℕ) (history : List Entry) → IsBehind other answer p history → WasBehind number other answer p history
 behind_at_end_was_behind number other answer p history b =
-    (since_reply number history, [], sym (append-nil _), subst (λ h. IsBehind other answer p h) (sym (window_parts_make_whole (is_reply_to number) history)) b)
+    (since_reply number history, [], sym (append-nil _), subst (λ h. IsBehind other answer p h) (sym (window_sections_make_whole (is_reply_to number) history)) b)

@@ -1,4 +1,4 @@
--- The parts of a history, and what the sums of the parts are.
+-- The sections of a history, and what the sums of the sections are.
 use Rattle.std.proofs.Common.{◌≡◌, ℕ, ◌+◌, List, [], ◌∷◌, ◌++◌, refl, sym, ap, ◌∙◌, Bool, true, false, ◌||◌, cond, arith}
 use Rattle.std.proofs.lemmas.List.Sums.{sum_by-append, sum_by-cons}
 use Rattle.std.specs.List.{list_any, sum_by}
@@ -10,42 +10,42 @@ use Rattle.heap_model.specs.account.Space.{total, total_of, total_but}
 use Rattle.heap_model.specs.account.Effects.{effect_of, is_of}
 use Rattle.heap_model.specs.account.Windows.{is_reply_to, up_to_last, after_last, up_to_reply, since_reply}
 
--- the two parts are the history
-pub window_parts_make_whole : (test : Entry → Bool) (history : List Entry) → up_to_last test history ++ after_last test history ≡ history
-window_parts_make_whole test [] = refl
-window_parts_make_whole test (entry ∷ history) =
+-- the two sections are the history
+pub window_sections_make_whole : (test : Entry → Bool) (history : List Entry) → up_to_last test history ++ after_last test history ≡ history
+window_sections_make_whole test [] = refl
+window_sections_make_whole test (entry ∷ history) =
     elim (list_any test (entry ∷ history)) as (λ b. (cond b (entry ∷ up_to_last test history) []) ++ (cond b (after_last test history) (entry ∷ history)) ≡ entry ∷ history)
-    [ true ↦ ap (λ es. entry ∷ es) (window_parts_make_whole test history) | false ↦ refl ]
+    [ true ↦ ap (λ es. entry ∷ es) (window_sections_make_whole test history) | false ↦ refl ]
 
--- a sum over the history is the sum over its two parts
-pub sum_of_window_parts : (test : Entry → Bool) (f : Entry → ℕ) (history : List Entry) → sum_by f history ≡ sum_by f (up_to_last test history) + sum_by f (after_last test history)
-sum_of_window_parts test f history = ap (sum_by f) (sym (window_parts_make_whole test history)) ∙ sum_by-append f (up_to_last test history) (after_last test history)
+-- a sum over the history is the sum over its two sections
+pub sum_of_window_sections : (test : Entry → Bool) (f : Entry → ℕ) (history : List Entry) → sum_by f history ≡ sum_by f (up_to_last test history) + sum_by f (after_last test history)
+sum_of_window_sections test f history = ap (sum_by f) (sym (window_sections_make_whole test history)) ∙ sum_by-append f (up_to_last test history) (after_last test history)
 
 -- all is the seat's and the others'
-pub total_is_own_and_others : (number : ℕ) (part : Effect → ℕ) (history : List Entry) → total part history ≡ total_of number part history + total_but number part history
-total_is_own_and_others number part [] = refl
-total_is_own_and_others number part (entry ∷ history) =
-    let all = sum_by-cons (λ e. part (effect_of e)) entry history in
-    let own = sum_by-cons (λ e. cond (is_of number e) (part (effect_of e)) 0) entry history in
-    let others = sum_by-cons (λ e. cond (is_of number e) 0 (part (effect_of e))) entry history in
-    let one : part (effect_of entry) ≡ cond (is_of number entry) (part (effect_of entry)) 0 + cond (is_of number entry) 0 (part (effect_of entry)) = one_split (is_of number entry) (part (effect_of entry)) in
-    omega (arith, all, own, others, one, total_is_own_and_others number part history)
+pub total_is_own_and_others : (number : ℕ) (summand : Effect → ℕ) (history : List Entry) → total summand history ≡ total_of number summand history + total_but number summand history
+total_is_own_and_others number summand [] = refl
+total_is_own_and_others number summand (entry ∷ history) =
+    let all = sum_by-cons (λ e. summand (effect_of e)) entry history in
+    let own = sum_by-cons (λ e. cond (is_of number e) (summand (effect_of e)) 0) entry history in
+    let others = sum_by-cons (λ e. cond (is_of number e) 0 (summand (effect_of e))) entry history in
+    let one : summand (effect_of entry) ≡ cond (is_of number entry) (summand (effect_of entry)) 0 + cond (is_of number entry) 0 (summand (effect_of entry)) = one_split (is_of number entry) (summand (effect_of entry)) in
+    omega (arith, all, own, others, one, total_is_own_and_others number summand history)
   where
     one_split : (b : Bool) (n : ℕ) → n ≡ cond b n 0 + cond b 0 n
     one_split true n = omega arith
     one_split false n = omega arith
 
 -- what others did since a seat's last reply, by sums over what led there and over all
-pub others_total_since_reply : (number : ℕ) (part : Effect → ℕ) (history : List Entry)
-    → total_but number part (since_reply number history) + total_of number part history + total part (up_to_reply number history) ≡ total part history + total_of number part (up_to_reply number history)
-others_total_since_reply number part history =
-    let all = sum_of_window_parts (is_reply_to number) (λ e. part (effect_of e)) history in
-    let own = sum_of_window_parts (is_reply_to number) (λ e. cond (is_of number e) (part (effect_of e)) 0) history in
-    omega (arith, all, own, total_is_own_and_others number part (since_reply number history))
+pub others_total_since_reply : (number : ℕ) (summand : Effect → ℕ) (history : List Entry)
+    → total_but number summand (since_reply number history) + total_of number summand history + total summand (up_to_reply number history) ≡ total summand history + total_of number summand (up_to_reply number history)
+others_total_since_reply number summand history =
+    let all = sum_of_window_sections (is_reply_to number) (λ e. summand (effect_of e)) history in
+    let own = sum_of_window_sections (is_reply_to number) (λ e. cond (is_of number e) (summand (effect_of e)) 0) history in
+    omega (arith, all, own, total_is_own_and_others number summand (since_reply number history))
 
 -- what all did since
-pub total_since_reply : (number : ℕ) (part : Effect → ℕ) (history : List Entry) → total part (since_reply number history) + total part (up_to_reply number history) ≡ total part history
-total_since_reply number part history = let all = sum_of_window_parts (is_reply_to number) (λ e. part (effect_of e)) history in omega (arith, all)
+pub total_since_reply : (number : ℕ) (summand : Effect → ℕ) (history : List Entry) → total summand (since_reply number history) + total summand (up_to_reply number history) ≡ total summand history
+total_since_reply number summand history = let all = sum_of_window_sections (is_reply_to number) (λ e. summand (effect_of e)) history in omega (arith, all)
 
 or-false : (b : Bool) → (b || false) ≡ b
 or-false true = refl

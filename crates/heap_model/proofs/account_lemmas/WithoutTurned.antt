@@ -1,4 +1,4 @@
--- Answers to commands of the collector change no sum, no part and no graph of a history.
+-- Answers to commands of the collector change no sum, no section and no graph of a history.
 use Rattle.std.proofs.Common.{◌≡◌, ℕ, ◌+◌, List, [], ◌∷◌, inl, inr, refl, sym, ap, ◌∙◌, subst, Bool, true, false, ◌||◌, cond, arith, Contains, sum_by}
 use Rattle.std.specs.List.{list_any}
 use Rattle.std.proofs.lemmas.List.Sums.{sum_by-cons}
@@ -27,7 +27,7 @@ module _ (test : Entry → Bool) (fails : (command : TurnCommand) (reply : TurnR
   any_without_turned (entries.Turned command reply ∷ history) = any_without_turned history ∙ ap (λ b. b || list_any test history) (sym (fails command reply))
   any_without_turned (entry ∷ history) = ap (λ b. test entry || b) (any_without_turned history)
 
-  -- the parts of a history
+  -- the sections of a history
   pub up_to_last_without_turned : (history : List Entry) → up_to_last test (without_turned history) ≡ without_turned (up_to_last test history)
   up_to_last_without_turned [] = refl
   up_to_last_without_turned (entries.Turned command reply ∷ history) = rw (fails command reply) (by (list_any test history) refl (up_to_last_without_turned history))

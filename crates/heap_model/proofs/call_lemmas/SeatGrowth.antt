@@ -134,7 +134,7 @@ each_call_counts old new command reply adds =
     let goes = subst (GoesOn (command ≢ commands.Leave) (own_graph_seat old)) (sym seat) (goes_on_said (own_graph old) old.number command reply) in
     record { present_stays = goes.present; made_more = goes.made; sets_more = goes.set_more }
 
--- another seat in one place leaves those in the others
+-- another seat in one position leaves those in the others
 spared : (g : Graph) (number other : ℕ) (p : GraphSeat) → other ≢ number → CountsAsBefore (graph_seat g other) (graph_seat (with_graph_seat g number p) other)
 spared g number other p apart =
     subst (CountsAsBefore (graph_seat g other)) (sym (get_or-set_other g.seats number other p absent_graph_seat apart)) record { leaves_same = refl; made_same = refl; sets_same = refl }

@@ -39,7 +39,7 @@ order_cases (Made s n) (Made t m) = elim (cases_lt s t) [
     counts seats (inr above) (inl below) = inr (inr (inr (sym seats, below)))
     counts seats (inr above) (inr same) = (let equal : n ≡ m = omega (arith, above, same) in inr (inl (cc (seats, equal))))
 
--- an id is put in its place among others
+-- an id is put in its position among others
 put_in : (x : Id) (ys : List Id) → AllPairs IsBefore ys → (Contains ys x → ⊥) → (zs : List Id) × IsPermutation (x ∷ ys) zs × AllPairs IsBefore zs
 put_in x [] ordered new = (x ∷ [], IsPermutation-refl (x ∷ []), AllPairs-cons IsBefore x [] (λ k d within. absurd (omega (arith, within))) ordered)
 put_in x (y ∷ ys) ordered new = elim (order_cases x y) [

@@ -89,7 +89,7 @@ pub mark_counts-with_mark : (m : Marking) (id : Id) → mark_counts (with_mark m
 mark_counts-with_mark m Board = refl
 mark_counts-with_mark m (Made number count) = map-set_same length m.seats number (set (marks_of m number) count true) [] (length-set (marks_of m number) count true)
 
--- lists of one length have elements at the same places
+-- lists of one length have elements at the same positions
 there_by_length : {A B : Type 0} (xs : List A) (ys : List B) (i : ℕ) → length xs ≡ length ys → is_some (slice_get xs i) ≡ is_some (slice_get ys i)
 there_by_length [] [] i same = refl
 there_by_length [] (y ∷ ys) i same = absurd (omega (arith, same))

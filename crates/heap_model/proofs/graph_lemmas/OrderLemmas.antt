@@ -12,12 +12,12 @@ use Rattle.heap_model.specs.graph.Reach.{IsBefore}
 use Rattle.heap_model.specs.graph.Marking.{Marking, HasMark, HasMarks, IsListed}
 use Rattle.heap_model.proofs.graph_lemmas.MarkLemmas.{mark_stands_where_node}
 
--- the next place after this one, in its seat
-abbrev pub next_place : Id → Id
-next_place Board = Made 0 0
-next_place (Made number count) = Made number (count + 1)
+-- the next position after this one, in its seat
+abbrev pub next_position : Id → Id
+next_position Board = Made 0 0
+next_position (Made number count) = Made number (count + 1)
 
-IsBefore-next : (id place : Id) → IsBefore id place → IsBefore id (next_place place)
+IsBefore-next : (id position : Id) → IsBefore id position → IsBefore id (next_position position)
 IsBefore-next Board Board before = absurd before
 IsBefore-next (Made number count) Board before = absurd before
 IsBefore-next Board (Made t later) before = tt
@@ -26,12 +26,12 @@ IsBefore-next (Made number count) (Made t later) before = elim before [
   | inr same ↦ inr (same.0, omega (arith, same.1))
 ]
 
-IsBefore-here : (place : Id) → IsBefore place (next_place place)
+IsBefore-here : (position : Id) → IsBefore position (next_position position)
 IsBefore-here Board = tt
 IsBefore-here (Made number count) = inr (refl, omega arith)
 
--- before the next place is what is before this one, and this one
-IsBefore-cases : (id place : Id) → IsBefore id (next_place place) → IsBefore id place ⊎ (place ≡ id)
+-- before the next position is what is before this one, and this one
+IsBefore-cases : (id position : Id) → IsBefore id (next_position position) → IsBefore id position ⊎ (position ≡ id)
 IsBefore-cases Board Board before = inr refl
 IsBefore-cases (Made number count) Board before = elim before [ inl seat ↦ absurd (omega (arith, seat)) | inr same ↦ absurd (omega (arith, same.1)) ]
 IsBefore-cases Board (Made t later) before = inl tt
@@ -45,25 +45,25 @@ IsBefore-cases (Made number count) (Made t later) before = elim before [
 ]
 
 -- a marked object is listed after those before it
-pub IsListed-push : (m : Marking) (place : Id) (ids : List Id) → IsListed m place ids → HasMark m place → IsListed m (next_place place) (ids ++ place ∷ [])
-IsListed-push m place ids listed here = record {
-  ordered = all_pairs_push IsBefore ids place listed.ordered (λ k d within. (listed.marked (get_or ids k d) (Contains-get_or ids k d within)).1);
-  marked = λ id held. elim (Contains-push_cases ids place id held) [
-    | inl old ↦ ((listed.marked id old).0, IsBefore-next id place (listed.marked id old).1)
-    | inr new ↦ subst (λ x. HasMark m x × IsBefore x (next_place place)) new (here, IsBefore-here place)
+pub IsListed-push : (m : Marking) (position : Id) (ids : List Id) → IsListed m position ids → HasMark m position → IsListed m (next_position position) (ids ++ position ∷ [])
+IsListed-push m position ids listed here = record {
+  ordered = all_pairs_push IsBefore ids position listed.ordered (λ k d within. (listed.marked (get_or ids k d) (Contains-get_or ids k d within)).1);
+  marked = λ id held. elim (Contains-push_cases ids position id held) [
+    | inl old ↦ ((listed.marked id old).0, IsBefore-next id position (listed.marked id old).1)
+    | inr new ↦ subst (λ x. HasMark m x × IsBefore x (next_position position)) new (here, IsBefore-here position)
   ];
-  whole = λ id marked before. elim (IsBefore-cases id place before) [
-    | inl old ↦ Contains-append_left ids (place ∷ []) id (listed.whole id marked old)
-    | inr new ↦ subst (λ x. Contains (ids ++ place ∷ []) x) new (Contains-push ids place)
+  whole = λ id marked before. elim (IsBefore-cases id position before) [
+    | inl old ↦ Contains-append_left ids (position ∷ []) id (listed.whole id marked old)
+    | inr new ↦ subst (λ x. Contains (ids ++ position ∷ []) x) new (Contains-push ids position)
   ];
 }
 
 -- an object that isn't marked is passed over
-pub IsListed-skip : (m : Marking) (place : Id) (ids : List Id) → IsListed m place ids → (HasMark m place → ⊥) → IsListed m (next_place place) ids
-IsListed-skip m place ids listed unmarked = record {
+pub IsListed-skip : (m : Marking) (position : Id) (ids : List Id) → IsListed m position ids → (HasMark m position → ⊥) → IsListed m (next_position position) ids
+IsListed-skip m position ids listed unmarked = record {
   ordered = listed.ordered;
-  marked = λ id held. ((listed.marked id held).0, IsBefore-next id place (listed.marked id held).1);
-  whole = λ id marked before. elim (IsBefore-cases id place before) [
+  marked = λ id held. ((listed.marked id held).0, IsBefore-next id position (listed.marked id held).1);
+  whole = λ id marked before. elim (IsBefore-cases id position before) [
     | inl old ↦ listed.whole id marked old
     | inr new ↦ absurd (unmarked (subst (HasMark m) (sym new) marked))
   ];

@@ -67,7 +67,7 @@ pub record TellsCycle (heap : Heap) (cycle : Cycle) (history : List Entry) : Typ
 -- what the account keeps is what the history says
 pub record Tells (books : Books) (history : List Entry) : Type 0 where
   pub entries : books.entries ≡ length history
-  pub all : IsMeasured books.all (λ part. total part history)
+  pub all : IsMeasured books.all (λ summand. total summand history)
   pub seats : (number : ℕ) → number < books.heap.seats → TellsSeat books.heap books.all books.seats number (account_at books.seats number) history
   pub ended : (cycle : ℕ) → HasEnded cycle history ↔ (cycle < books.all.phases / cycle_phases)
   pub just_ended : (cycle : ℕ) → JustEnded cycle history ↔ (books.ended ≡ Some cycle)

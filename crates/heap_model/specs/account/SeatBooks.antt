@@ -43,9 +43,9 @@ pub record TellsSince (all : Effect) (number : ℕ) (seat : SeatAccount) (histor
 
 -- what is kept of the seat is what the history says of it
 pub record TellsSeat (heap : Heap) (all : Effect) (seats : List SeatAccount) (number : ℕ) (seat : SeatAccount) (history : List Entry) : Type 0 where
-  pub own : IsMeasured seat.own (λ part. total_of number part history)
-  pub own_then : IsMeasured seat.own_then (λ part. total_of number part (up_to_reply number history))
-  pub all_then : IsMeasured seat.all_then (λ part. total part (up_to_reply number history))
+  pub own : IsMeasured seat.own (λ summand. total_of number summand history)
+  pub own_then : IsMeasured seat.own_then (λ summand. total_of number summand (up_to_reply number history))
+  pub all_then : IsMeasured seat.all_then (λ summand. total summand (up_to_reply number history))
   pub since : TellsSince all number seat history
   pub left : is_some seat.left ≡ has_left number history
   pub solvent : seat.own_then.given + seat.own_then.born ≤ seat.own_then.taken

@@ -9,15 +9,15 @@ pub use Rattle.heap_model.specs.account.Effects.{effect_of, is_of}
 
 -- one count, summed over all entries
 abbrev pub total : (Effect → ℕ) → List Entry → ℕ
-total part history = sum_by (λ e. part (effect_of e)) history
+total summand history = sum_by (λ e. summand (effect_of e)) history
 
 -- one count, summed over a seat's own entries
 abbrev pub total_of : ℕ → (Effect → ℕ) → List Entry → ℕ
-total_of number part history = sum_by (λ e. if is_of number e then part (effect_of e) else 0) history
+total_of number summand history = sum_by (λ e. if is_of number e then summand (effect_of e) else 0) history
 
 -- one count, summed over all but a seat's entries, the collector's among them
 abbrev pub total_but : ℕ → (Effect → ℕ) → List Entry → ℕ
-total_but number part history = sum_by (λ e. if is_of number e then 0 else part (effect_of e)) history
+total_but number summand history = sum_by (λ e. if is_of number e then 0 else summand (effect_of e)) history
 
 -- the board's fragments, and all that were ever taken
 abbrev pub fragments_gained : Heap → List Entry → ℕ

@@ -1,4 +1,4 @@
--- Parts of a history: up to the last entry of some kind, and after it.
+-- Sections of a history: up to the last entry of some kind, and after it.
 use Rattle.std.specs.Prelude.{ℕ, ◌==◌, ◌%◌, Bool, true, false, if◌then◌else◌, List, [], ◌∷◌}
 use Rattle.std.specs.List.{list_any}
 use Rattle.heap_model.specs.PhasePlan.{cycle_phases, barriers}

@@ -17,17 +17,17 @@ pub record AreMarked (m : Marking) (ids : List Id) : Type 0 where
   pub once : AllPairs (λ id later. id ≢ later) ids
   pub marked : (id : Id) → Contains ids id ↔ HasMark m id
 
--- there are places for all objects: so many are taken by those that were found, and one is left for each that isn't marked
-pub record HasPlaces (m : Marking) (found places capacity : ℕ) : Type 0 where
-  pub counted : all_marks m ≤ places
-  pub room : places ≤ capacity
-  pub left : unmarked m + found ≤ places
+-- there are positions for all objects: so many are taken by those that were found, and one is left for each that isn't marked
+pub record HasPositions (m : Marking) (found positions capacity : ℕ) : Type 0 where
+  pub counted : all_marks m ≤ positions
+  pub room : positions ≤ capacity
+  pub left : unmarked m + found ≤ positions
 
--- the ids that were found are the marked ones, as many as `place` were looked at, and there is a place for each to come
-pub record HasFound (m : Marking) (ids : List Id) (place count places capacity : ℕ) : Type 0 where
+-- the ids that were found are the marked ones, as many as `position` were looked at, and there is a position for each to come
+pub record HasFound (m : Marking) (ids : List Id) (position count positions capacity : ℕ) : Type 0 where
   pub found : AreMarked m ids
-  pub next : place ≤ length ids
-  pub room : HasPlaces m count places capacity
+  pub next : position ≤ length ids
+  pub room : HasPositions m count positions capacity
 
 -- the search went on by marking some more objects, of which `P` holds, and which wait now
 pub record GoesOn (P : Id → Type 0) (old new : Search) : Type 0 where

@@ -39,7 +39,7 @@ impl Effect {
     /// What these entries come to together.
     pub fn of_all(entries: &[Entry]) -> Effect
         requires { length entries.now < 2 ^ 32 }
-        ensures sums { IsMeasured result (λ part. total part entries.now) }
+        ensures sums { IsMeasured result (λ summand. total summand entries.now) }
         ensures few { IsFew (length entries.now) result }
     {
         let mut all = Effect::NONE;

@@ -137,7 +137,7 @@ impl Account {
         }
     }
 
-    /// Whether the other seat was one phase behind at some place since the seat's last reply.
+    /// Whether the other seat was one phase behind at some position since the seat's last reply.
     fn was_behind(&self, seat: u8, other: u8, answered: u64) -> bool
         requires seat { seat < self.now.heap.seats }
         requires other { other < self.now.heap.seats }

@@ -5,7 +5,7 @@ ghost use Rattle.std.specs.Prelude.{IsTrue};
 use std::fmt::{Debug, Display};
 use std::process::Abort;
 
-/// What was found is what was wanted, at this place of a test.
+/// What was found is what was wanted, at this point of a test.
 pub(super) fn same<T: PartialEq + Debug>(
     rt: &impl Abort,
     found: &T,
@@ -15,7 +15,7 @@ pub(super) fn same<T: PartialEq + Debug>(
     assert_eq!(rt; found, wanted, "at {at}");
 }
 
-/// What was wanted holds, at this place of a test.
+/// What was wanted holds, at this point of a test.
 pub(super) fn holds(rt: &impl Abort, found: bool, at: &impl Display)
     ensures { IsTrue found }
 {

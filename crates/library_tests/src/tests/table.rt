@@ -5,7 +5,7 @@ ghost use Rattle.heap_model.specs.Heap.{IsHeap};
 ghost use Rattle.library_tests.specs.SameSeat.{IsSameSeat};
 
 use super::comparing::{holds, same};
-use super::parts::make_long_record;
+use super::call_steps::make_long_record;
 use core_machine::Log;
 use heap_model::{Command, Entry, Heap, Memory, Reply};
 use heap_table::{Closed, CollectorHolder, HeapTable, Holder};
@@ -39,7 +39,7 @@ fn call(holder: &mut Holder, command: Command) -> Result<(), Memory>
 pub(super) enum Task {
     /// So many records of two fields.
     Records(u32),
-    /// One record of forty-seven, part by part.
+    /// One record of forty-seven, by the calls that it is made of.
     LongRecord,
 }
 

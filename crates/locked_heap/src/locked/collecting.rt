@@ -70,7 +70,7 @@ impl<N: Handed> Locked<N> {
         self.recorder.inner(seat, Inner::Note(came))?;
         let progress = self.seats[seat as usize];
         self.seats[seat as usize] = Progress {
-            place: progress.place + 1,
+            position: progress.position + 1,
             target: None,
             paid: finds,
             ..progress

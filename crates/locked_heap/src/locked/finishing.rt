@@ -24,7 +24,7 @@ impl<N: Handed> Locked<N> {
         requires script { script.now ≡ script_of N.given seat }
         ensures progress { IfOk result (λ progress. progress ≡ progress_at self.new.seats seat) }
         ensures further { ComesOneFurther self.old self.new seat }
-        ensures leaves { OnOk result ((progress_at self.old.seats seat).place ≡ length (script_of N.given seat) → SeatHasLeft self.new.seats seat) }
+        ensures leaves { OnOk result ((progress_at self.old.seats seat).position ≡ length (script_of N.given seat) → SeatHasLeft self.new.seats seat) }
         ensures owes { OwesMore self.old self.new }
     {
         self.known();
@@ -32,7 +32,7 @@ impl<N: Handed> Locked<N> {
         if progress.gone {
             return Ok(progress);
         }
-        match script.get(progress.place) {
+        match script.get(progress.position) {
             None => self.leave(seat)?,
             Some(Command::Collect) => self.collect(seat)?,
             Some(command) => self.call(seat, command)?,

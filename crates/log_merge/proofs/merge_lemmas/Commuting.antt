@@ -13,18 +13,18 @@ use Rattle.heap_model.specs.graph.Changes.{with_cell, with_object_cell, write}
 use Rattle.log_merge.proofs.merge_lemmas.Changes.{Change, grown, seat_changed, changed}
 use Rattle.log_merge.proofs.merge_lemmas.Places.{IsKnown, object_seat_is_there, IsKnown-seat_changed}
 
--- the list with the element at a place put through a function
+-- the list with the element at a position put through a function
 abbrev updated : {A : Type 0} → List A → ℕ → A → (A → A) → List A
 updated xs i d f = set xs i (f (get_or xs i d))
 
--- at two places, in either order
+-- at two positions, in either order
 updated_apart : {A : Type 0} (xs : List A) (i j : ℕ) (d : A) (f h : A → A) → (i ≡ j → ⊥) → updated (updated xs i d f) j d h ≡ updated (updated xs j d h) i d f
 updated_apart xs i j d f h apart =
     ap (λ x. set (set xs i (f (get_or xs i d))) j (h x)) (get_or-set_other xs i j (f (get_or xs i d)) d (λ e. apart (sym e)))
     ∙ set_comm xs i j (f (get_or xs i d)) (h (get_or xs j d)) apart
     ∙ ap (λ x. set (set xs j (h (get_or xs j d))) i (f x)) (sym (get_or-set_other xs j i (h (get_or xs j d)) d apart))
 
--- at one place, twice
+-- at one position, twice
 updated_twice : {A : Type 0} (xs : List A) (i : ℕ) (d : A) (f h : A → A) → i < length xs → updated (updated xs i d f) i d h ≡ set xs i (h (f (get_or xs i d)))
 updated_twice xs i d f h within =
     ap (λ x. set (set xs i (f (get_or xs i d))) i (h x)) (get_or-set_same xs i (f (get_or xs i d)) d within) ∙ set-set xs i (f (get_or xs i d)) (h (f (get_or xs i d)))

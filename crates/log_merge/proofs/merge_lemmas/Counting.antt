@@ -47,7 +47,7 @@ sum_of_same_parts f h from (suc count) same =
     let other = sum_by-cons h from (range_with_len (from + 1) count) in
     omega (arith, first, rest, one, other)
 
--- sums that differ at one place
+-- sums that differ at one position
 pub sum_grows_at_one : (f h : ℕ → ℕ) (from count at more : ℕ) → ((n : ℕ) → n < from + count → (n ≡ at → ⊥) → h n ≡ f n) → h at ≡ f at + more → from ≤ at → at < from + count
     → sum_by h (range_with_len from count) ≡ sum_by f (range_with_len from count) + more
 sum_grows_at_one f h from zero at more same here above below = absurd (omega arith)

@@ -89,9 +89,9 @@ left_count_falls_by_placed heap logs placed rest number e completion within mine
 got_shown : (heap : Heap) (logs : List (List Entry)) (placed rest : List Entry) (number : ℕ) (e : Entry) → IsCompletion heap logs placed (e ∷ rest) → is_in_log heap number e ≡ true
     → get_of (registers_of (part_of heap number placed)) e ≡ got_by (graph_of heap placed) e
 got_shown heap logs placed rest number (entries.Said seat (commands.Get d r i) (replies.Got found stamp)) completion mine =
-    let place = seat_entry_in_own_log heap number seat (commands.Get d r i) (replies.Got found stamp) mine in
+    let its_log = seat_entry_in_own_log heap number seat (commands.Get d r i) (replies.Got found stamp) mine in
     let accepted = (AcceptsAll-parts (opening heap) placed (entries.Said seat (commands.Get d r i) (replies.Got found stamp) ∷ rest) completion.legal).0 in
-    ap (λ rs. kind_of (get_or rs r Nil) i stamp) (sym (own_registers_are_shown heap placed number accepted place.0)) ∙ ap (λ v. kind_of v i stamp) (value_of_register (own (graph_of heap placed) number) r) ∙ ap (λ n. kind_of (register_value (graph_of heap placed) n r) i stamp) (sym place.1)
+    ap (λ rs. kind_of (get_or rs r Nil) i stamp) (sym (own_registers_are_shown heap placed number accepted its_log.0)) ∙ ap (λ v. kind_of v i stamp) (value_of_register (own (graph_of heap placed) number) r) ∙ ap (λ n. kind_of (register_value (graph_of heap placed) n r) i stamp) (sym its_log.1)
 got_shown heap logs placed rest number _ completion mine = refl
 
 -- its kind of get is counted once less

@@ -18,7 +18,7 @@ use Rattle.log_merge.specs.Merging.{is_in_log, part_of, HasPendingGet, WaitsForN
 use Rattle.log_merge.specs.Placing.{IsCompletion}
 use Rattle.log_merge.proofs.merge_lemmas.Exchange.{AllApart, NoneIsDue, accepts_all_after_first}
 use Rattle.log_merge.proofs.merge_lemmas.Parts.{filter-yes, filter-no, no_more, parted_filter, seat_log_has_own_entries, collector_log_has_own_entries, part_of-collector, part_of-append, left_of-rest, filter-moved, is_of-seat_of}
-use Rattle.log_merge.proofs.merge_lemmas.Rests.{AcceptsAll-both, AcceptsAll-parts, no_gets_by_places, placed_is_sound, recorded_get_is_pending, rest_is_accepted}
+use Rattle.log_merge.proofs.merge_lemmas.Rests.{AcceptsAll-both, AcceptsAll-parts, no_gets_by_positions, placed_is_sound, recorded_get_is_pending, rest_is_accepted}
 
 -- entries of other logs are other seats'
 two_seats : (heap : Heap) (number seat : ℕ) (e a : Entry) → is_in_log heap number e ≡ true → is_in_log heap number a ≡ false → seat_of e ≡ Some seat → seat_of a ≡ Some seat → ⊥
@@ -45,7 +45,7 @@ out_of_log heap number front back x none here =
 none_is_due : (heap : Heap) (logs : List (List Entry)) (placed rest front back : List Entry) (e : Entry) (number : ℕ) → IsCompletion heap logs placed rest → rest ≡ front ++ e ∷ back → part_of heap number front ≡ []
     → WaitsForNone heap logs placed number e → NoneIsDue (graph_of heap placed) front e
 none_is_due heap logs placed rest front back (entries.Said seat (commands.Set r i v) (replies.Was stamp)) number completion parted none waits = λ value j t writes.
-    no_gets_by_places (graph_of heap placed) front value j t (λ one other x split gets.
+    no_gets_by_positions (graph_of heap placed) front value j t (λ one other x split gets.
     let e = entries.Said seat (commands.Set r i v) (replies.Was stamp) in
     let whole : rest ≡ one ++ x ∷ (other ++ e ∷ back) = parted ∙ ap (λ es. es ++ e ∷ back) split ∙ append_assoc one (x ∷ other) (e ∷ back) in
     let pending = recorded_get_is_pending heap logs placed rest one (other ++ e ∷ back) x value j t number completion whole (out_of_log heap number one other x (ap (part_of heap number) (sym split) ∙ none)) gets in

@@ -31,7 +31,7 @@ IsKnown g (Number n) = Unit {0}
 IsKnown g (Object Board) = Unit {0}
 IsKnown g (Object (Made number count)) = count < length (graph_seat g number).objects
 
--- two lists with the same elements at a place
+-- two lists with the same elements at a position
 slice_get-set_other : {A : Type 0} (xs : List A) (i j : ℕ) (x : A) → (j ≡ i → ⊥) → slice_get (set xs i x) j ≡ slice_get xs j
 slice_get-set_other xs i j x apart = elim (cases_lt j (length xs)) [
   | inl within ↦ slice_get-get_or (set xs i x) j x (omega (arith, length-set xs i x)) ∙ ap Some (get_or-set_other xs i j x x apart) ∙ sym (slice_get-get_or xs j x within)

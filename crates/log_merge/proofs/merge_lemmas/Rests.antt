@@ -107,10 +107,10 @@ rest_is_accepted heap logs placed rest completion = (AcceptsAll-parts (opening h
 pub placed_is_sound : (heap : Heap) (logs : List (List Entry)) (placed rest : List Entry) → IsCompletion heap logs placed rest → IsSound (graph_of heap placed)
 placed_is_sound heap logs placed rest completion = IsSound-history (opening heap) placed (IsSound-opening heap) (AcceptsAll-parts (opening heap) placed rest completion.legal).0
 
--- gets by their places
-pub no_gets_by_places : (g : Graph) (es : List Entry) (value : Value) (j t : ℕ) → ((front back : List Entry) (x : Entry) → es ≡ front ++ x ∷ back → IsGetOf (graph_after g front) x value j t → ⊥) → NoGets g es value j t
-no_gets_by_places g [] value j t none = tt
-no_gets_by_places g (e ∷ es) value j t none = (none [] es e refl, no_gets_by_places (after_entry g e) es value j t (λ front back x parted gets. none (e ∷ front) back x (ap (λ xs. e ∷ xs) parted) gets))
+-- gets by their positions
+pub no_gets_by_positions : (g : Graph) (es : List Entry) (value : Value) (j t : ℕ) → ((front back : List Entry) (x : Entry) → es ≡ front ++ x ∷ back → IsGetOf (graph_after g front) x value j t → ⊥) → NoGets g es value j t
+no_gets_by_positions g [] value j t none = tt
+no_gets_by_positions g (e ∷ es) value j t none = (none [] es e refl, no_gets_by_positions (after_entry g e) es value j t (λ front back x parted gets. none (e ∷ front) back x (ap (λ xs. e ∷ xs) parted) gets))
 
 no_get_at : (g : Graph) (front back : List Entry) (x : Entry) (value : Value) (j t : ℕ) → NoGets g (front ++ x ∷ back) value j t → IsGetOf (graph_after g front) x value j t → ⊥
 no_get_at g [] back x value j t none gets = none.0 gets

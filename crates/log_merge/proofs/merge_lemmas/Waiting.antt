@@ -53,11 +53,11 @@ got_there : (heap : Heap) (placed left earlier later : List Entry) (x : Entry) (
     → values_of (own (graph_of heap (part_of heap number placed ++ earlier)) number) ≡ fold registers_after (registers_of (part_of heap number placed)) earlier
     → get_of (fold registers_after (registers_of (part_of heap number placed)) earlier) x ≡ Some kind → HasGet heap (part_of heap number placed) left (Object kind.object) kind.index kind.stamp
 got_there heap placed left earlier later (entries.Said seat (commands.Get d r i) (replies.Got found stamp)) number kind parted inside shown is =
-    let place = seat_entry_in_own_log heap number seat (commands.Get d r i) (replies.Got found stamp) inside in
+    let its_log = seat_entry_in_own_log heap number seat (commands.Get d r i) (replies.Got found stamp) inside in
     let held = fold registers_after (registers_of (part_of heap number placed)) earlier in
     let all = kind_is (get_or held r Nil) i stamp kind is in
     let g = graph_of heap (part_of heap number placed ++ earlier) in
-    let holds : register_value g seat r ≡ Object kind.object = ap (λ n. register_value g n r) place.1 ∙ sym (value_of_register (own g number) r) ∙ ap (λ rs. get_or rs r Nil) shown ∙ all.0 in
+    let holds : register_value g seat r ≡ Object kind.object = ap (λ n. register_value g n r) its_log.1 ∙ sym (value_of_register (own g number) r) ∙ ap (λ rs. get_or rs r Nil) shown ∙ all.0 in
     record {
       earlier = earlier;
       seat = seat;
@@ -83,9 +83,9 @@ has_get heap logs placed rest number kind completion within some =
         → get_of (fold registers_after (registers_of (part_of heap number placed)) earlier) x ≡ Some kind
         → values_of (own (graph_of heap (part_of heap number placed ++ earlier)) number) ≡ fold registers_after (registers_of (part_of heap number placed)) earlier
     shown_in_seat (entries.Said seat command reply) earlier front back parted before inside is =
-        let place = seat_entry_in_own_log heap number seat command reply inside in
+        let its_log = seat_entry_in_own_log heap number seat command reply inside in
         subst (λ es. values_of (own (graph_of heap (part_of heap number placed ++ es)) number) ≡ fold registers_after (registers_of (part_of heap number placed)) es) before
-        (shown_at heap logs placed rest front (entries.Said seat command reply ∷ back) number completion parted place.0)
+        (shown_at heap logs placed rest front (entries.Said seat command reply ∷ back) number completion parted its_log.0)
     shown_in_seat _ earlier front back parted before inside is = absurd cc
 
 -- and one that the log has is counted
@@ -96,11 +96,11 @@ counted_get heap logs placed rest number id i stamp completion within has =
     let x = entries.Said has.seat (commands.Get has.d has.r i) (replies.Got has.found stamp) in
     let held = registers_of (part_of heap number placed) in
     let there = parted_filter (is_in_log heap number) rest has.earlier has.later x (sym (left_of-rest heap logs placed rest number completion.kept within) ∙ has.parted) in
-    let place = seat_entry_in_own_log heap number has.seat (commands.Get has.d has.r i) (replies.Got has.found stamp) there.passes in
+    let its_log = seat_entry_in_own_log heap number has.seat (commands.Get has.d has.r i) (replies.Got has.found stamp) there.passes in
     let shown : values_of (own (graph_of heap (part_of heap number placed ++ has.earlier)) number) ≡ fold registers_after held has.earlier =
-    subst (λ es. values_of (own (graph_of heap (part_of heap number placed ++ es)) number) ≡ fold registers_after held es) there.before (shown_at heap logs placed rest there.front (x ∷ there.back) number completion there.parted place.0) in
+    subst (λ es. values_of (own (graph_of heap (part_of heap number placed ++ es)) number) ≡ fold registers_after held es) there.before (shown_at heap logs placed rest there.front (x ∷ there.back) number completion there.parted its_log.0) in
     let holds : get_or (fold registers_after held has.earlier) has.r Nil ≡ Object id =
-    ap (λ rs. get_or rs has.r Nil) (sym shown) ∙ value_of_register (own (graph_of heap (part_of heap number placed ++ has.earlier)) number) has.r ∙ ap (λ n. register_value (graph_of heap (part_of heap number placed ++ has.earlier)) n has.r) (sym place.1) ∙ has.holds in
+    ap (λ rs. get_or rs has.r Nil) (sym shown) ∙ value_of_register (own (graph_of heap (part_of heap number placed ++ has.earlier)) number) has.r ∙ ap (λ n. register_value (graph_of heap (part_of heap number placed ++ has.earlier)) n has.r) (sym its_log.1) ∙ has.holds in
     let is : get_of (fold registers_after held has.earlier) x ≡ Some kind = ap (λ v. kind_of v i stamp) holds in
     subst (λ es. 0 < count_by (is_kind kind) (gets_in held es)) (sym has.parted) (kept_kind_is_counted held has.earlier has.later x kind is)
 

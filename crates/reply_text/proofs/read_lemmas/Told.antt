@@ -49,11 +49,11 @@ pub mark_in-body : (form : Form) (mark : Option SpaceMark) (entries : List Entry
 mark_in-body form None entries used h = mark_in-entries 0 entries (lines.End used ∷ [])
 mark_in-body Run (Some mark) entries used h = absurd h
 mark_in-body Play (Some mark) entries used h =
-    let place : 0 + length (take mark.before entries) ≡ mark.before = omega (arith, length-take-le mark.before entries h.0) in
+    let position : 0 + length (take mark.before entries) ≡ mark.before = omega (arith, length-take-le mark.before entries h.0) in
     rw (
       append_assoc (map lines.Entry (take mark.before entries)) (space_line mark ∷ map lines.Entry (drop mark.before entries)) (lines.End used ∷ []),
       mark_in-entries 0 (take mark.before entries) (space_line mark ∷ map lines.Entry (drop mark.before entries) ++ lines.End used ∷ []),
-      place,
+      position,
     ) refl
 
 -- the end among the lines

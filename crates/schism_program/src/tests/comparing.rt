@@ -6,7 +6,7 @@ use crate::status::Status;
 use std::fmt::Display;
 use std::process::Abort;
 
-/// The program ended so, and wrote these bytes, at this place of a test.
+/// The program ended so, and wrote these bytes, at this point of a test.
 pub(super) fn tells(
     rt: &impl Abort,
     found: &(Status, Vec<u8>),
@@ -19,7 +19,7 @@ pub(super) fn tells(
     assert_eq!(rt; bytes.as_slice(), written, "at {at}");
 }
 
-/// What was wanted holds, at this place of a test.
+/// What was wanted holds, at this point of a test.
 pub(super) fn holds(rt: &impl Abort, found: bool, at: &impl Display)
     ensures { IsTrue found }
 {

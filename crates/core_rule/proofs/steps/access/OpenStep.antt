@@ -8,8 +8,8 @@ use Rattle.core_rule.proofs.Terms.{no_spot, with_entries, IsMachine, Book, id_at
 use Rattle.heap_model.specs.declared.command.Command.TheVariants as commands
 use Rattle.heap_model.specs.declared.reply.Reply.TheVariants as replies
 use Rattle.core_machine.specs.seat.Looks.{forgotten}
-use Rattle.core_machine.specs.declared.place.Place.TheVariants as places
-use Rattle.core_machine.specs.declared.place.Access.TheVariants.{LoadingSpot}
+use Rattle.core_machine.specs.declared.point.Point.TheVariants as points
+use Rattle.core_machine.specs.declared.point.Access.TheVariants.{LoadingSpot}
 use Rattle.core_machine.specs.seat.FitsAccess.{NamesObject, NamesField, SeatIsAtHead}
 use Rattle.core_machine.specs.seat.AccessMoves.{open_move, reply_entries, reply_entries_if}
 use Rattle.core_rule.proofs.entries.AtRest.{seat_fits, spent_within_taken, taken_is_few_unspent}
@@ -40,10 +40,10 @@ meta_cases P (commands.Set r i v) found is len more past =
 meta_cases P _ found is len more past = absurd is
 
 module _ (heap : Heap) (state : State) (book : Book) (number : ℕ) (rule : Rule heap state book) (here : number < heap.seats)
-    (place : (seat_at state number).place ≡ places.Access LoadingMeta) where
+    (point : (seat_at state number).point ≡ points.Access LoadingMeta) where
   -- the way stands at an object's first fragment
   set_out : SetsOut book.made book.owner book.fragments (seat_at state number)
-  set_out = rw place at (rule.seats_stand number here).names.way
+  set_out = rw point at (rule.seats_stand number here).names.way
 
   -- a reply at the meta, which changes nothing of the graph
   met_keeps : (reply : Reply) → effect_of (Said number (seat_at state number).command reply) ≡ no_effect
@@ -52,23 +52,23 @@ module _ (heap : Heap) (state : State) (book : Book) (number : ℕ) (rule : Rule
       → KeepsSpace heap false book.history (Said number (seat_at state number).command reply)
       → is_leave_of number (Said number (seat_at state number).command reply) ≡ false
       → IsMachine heap (loaded_state heap state number (Word (seat_at state number).reached 0)
-      (went (seat_at state number) (seat_at state number).registers 0 0 0 no_spot 0 places.Idle (forgotten (seat_at state number).looks) (reply_entries number (seat_at state number) reply)))
+      (went (seat_at state number) (seat_at state number).registers 0 0 0 no_spot 0 points.Idle (forgotten (seat_at state number).looks) (reply_entries number (seat_at state number) reply)))
       → Keeps heap state (loaded_state heap state number (Word (seat_at state number).reached 0)
-      (went (seat_at state number) (seat_at state number).registers 0 0 0 no_spot 0 places.Idle (forgotten (seat_at state number).looks) (reply_entries number (seat_at state number) reply))) book book.begun (reply_entries number (seat_at state number) reply)
+      (went (seat_at state number) (seat_at state number).registers 0 0 0 no_spot 0 points.Idle (forgotten (seat_at state number).looks) (reply_entries number (seat_at state number) reply))) book book.begun (reply_entries number (seat_at state number) reply)
   met_keeps reply nothing stays accepts keeps stays_here machine =
       let seat : Seat = seat_at state number in
       let g : Graph = graph_of heap book.history in
       let stands = rule.seats_stand number here in
       let entry : Entry = Said number seat.command reply in
-      keeps_rule_by_telling_load heap state book number rule here (Word seat.reached 0) seat.registers 0 0 0 no_spot 0 places.Idle (forgotten (seat_at state number).looks) (entry ∷ []) machine seat.command reply nothing g stays (only_registers_of_itself g number)
-      (rw place tt) tt
+      keeps_rule_by_telling_load heap state book number rule here (Word seat.reached 0) seat.registers 0 0 0 no_spot 0 points.Idle (forgotten (seat_at state number).looks) (entry ∷ []) machine seat.command reply nothing g stays (only_registers_of_itself g number)
+      (rw point tt) tt
       accepts keeps
-      (λ r unawaited. stands.names.registers r (subst (λ p. IsAwaited p (target_of seat.command) r) place))
-      (own_list_after_entry g book.made book.owner book.fragments number seat book.history (subst IsAnswered place) stands.told.list g _ _ (entry ∷ []) [] (entry ∷ []) refl refl
+      (λ r unawaited. stands.names.registers r (subst (λ p. IsAwaited p (target_of seat.command) r) point))
+      (own_list_after_entry g book.made book.owner book.fragments number seat book.history (subst IsAnswered point) stands.told.list g _ _ (entry ∷ []) [] (entry ∷ []) refl refl
       (own_entries_grow number book.history entry (eq-eqb number number refl)) refl)
       tt tt tt stays_here
-      (seat_in_cycle_after_load heap state book number rule here (Word seat.reached 0) seat.registers 0 0 0 no_spot 0 places.Idle (forgotten (seat_at state number).looks) (entry ∷ []) machine tt)
-      (λ marks. roots_hold_off_way (IsReachedNow heap state book) seat (went seat seat.registers 0 0 0 no_spot 0 places.Idle (forgotten (seat_at state number).looks) (entry ∷ [])) refl tt)
+      (seat_in_cycle_after_load heap state book number rule here (Word seat.reached 0) seat.registers 0 0 0 no_spot 0 points.Idle (forgotten (seat_at state number).looks) (entry ∷ []) machine tt)
+      (λ marks. roots_hold_off_way (IsReachedNow heap state book) seat (went seat seat.registers 0 0 0 no_spot 0 points.Idle (forgotten (seat_at state number).looks) (entry ∷ [])) refl tt)
 
   -- the object has the field: the way of a record goes on by its links, and that of an array by its spine
   length_keeps : field_of (seat_at state number).command < length (cells_at (graph_of heap book.history) book.made set_out.index)
@@ -81,12 +81,12 @@ module _ (heap : Heap) (state : State) (book : Book) (number : ℕ) (rule : Rule
       let g : Graph = graph_of heap book.history in
       let found : ℕ = at heap state.words (Word seat.reached 0) in
       let stands = rule.heap_stands in
-      let opens : SeatIsAtHead seat = rw place at (seat_fits rule number here).way_at_place in
+      let opens : SeatIsAtHead seat = rw point at (seat_fits rule number here).way_at_point in
       let out = set_out in
       let index : ℕ = out.index in
       let way = out.way in
       let object : Node = node_at g book.made index in
-      let reaches = roots_hold_at_call (IsReachedNow heap state book) seat LoadingMeta place in
+      let reaches = roots_hold_at_call (IsReachedNow heap state book) seat LoadingMeta point in
       let cells : array_length_of found ≡ (if object.array then Some (length object.cells) else None)
       = ap (λ f. array_length_of (at heap state.words (Word f 0))) way.here
       ∙ meta_tells_array_length heap state.words g book.made book.owner book.fragments rule.machine.limits stands.control_words stands.ids stands.objects index way.below way.kept in
@@ -94,7 +94,7 @@ module _ (heap : Heap) (state : State) (book : Book) (number : ℕ) (rule : Rule
       → Keeps heap state (loaded_state heap state number (Word seat.reached 0) (with_entries (after_length seat found length) [])) book book.begun [] in
       array_or_record_cases heap state.words g book.made book.owner book.fragments rule.machine.limits stands.control_words stands.ids stands.objects index way.below way.kept (goes (array_length_of found))
       (λ kind. let is : array_length_of found ≡ Some (length object.cells) = cells ∙ ap (λ b. if b then Some (length object.cells) else None) kind in subst goes (sym is)
-      (keeps_rule_by_way_load heap state book number rule here LoadingMeta place (λ answered. answered) (λ d r awaited. awaited) (Word seat.reached 0) seat.reached 0 (field_of seat.command % 4) seat.address LoadingSpot refl
+      (keeps_rule_by_way_load heap state book number rule here LoadingMeta point (λ answered. answered) (λ d r awaited. awaited) (Word seat.reached 0) seat.reached 0 (field_of seat.command % 4) seat.address LoadingSpot refl
       record {
         index = index;
         way = record { below = way.below; kept = way.kept; holds = way.holds; here = way.here };
@@ -104,7 +104,7 @@ module _ (heap : Heap) (state : State) (book : Book) (number : ℕ) (rule : Rule
       }
       tt tt (λ marks roots. reaches roots)))
       (λ kind. let is : array_length_of found ≡ None = cells ∙ ap (λ b. if b then Some (length object.cells) else None) kind in subst goes (sym is)
-      (keeps_rule_by_onward_step heap state book number rule here LoadingMeta place (λ answered. answered) (λ d r awaited. awaited)
+      (keeps_rule_by_onward_step heap state book number rule here LoadingMeta point (λ answered. answered) (λ d r awaited. awaited)
       opens.none_loaded reaches (row_of (field_of seat.command)) (part_of (field_of seat.command)) record {
         index = index;
         row = 0;
@@ -113,52 +113,52 @@ module _ (heap : Heap) (state : State) (book : Book) (number : ℕ) (rule : Rule
       } kind))
 
 -- loading the length keeps the rule
-pub open_keeps : StepKeeps (places.Access LoadingMeta) (λ heap. open_move)
-open_keeps heap state book number rule here place machine =
+pub open_keeps : StepKeeps (points.Access LoadingMeta) (λ heap. open_move)
+open_keeps heap state book number rule here point machine =
     let seat : Seat = seat_at state number in
     let g : Graph = graph_of heap book.history in
     let found : ℕ = at heap state.words (Word seat.reached 0) in
-    let opens : SeatIsAtHead seat = rw place at (seat_fits rule number here).way_at_place in
-    let out = set_out heap state book number rule here place in
+    let opens : SeatIsAtHead seat = rw point at (seat_fits rule number here).way_at_point in
+    let out = set_out heap state book number rule here point in
     let index : ℕ = out.index in
     let way = out.way in
     let id : Id = id_at book.made index in
     let size : length_of found ≡ length (cells_at g book.made index)
     = ap (λ f. length_of (at heap state.words (Word f 0))) way.here
     ∙ meta_tells_length heap state.words g book.made book.owner book.fragments rule.machine.limits rule.heap_stands.control_words rule.heap_stands.ids rule.heap_stands.objects index way.below way.kept in
-    let present = seat_is_present heap state book number rule here LoadingMeta place in
+    let present = seat_is_present heap state book number rule here LoadingMeta point in
     let made = rule.heap_stands.ids.in_graph index way.below in
-    let held = way_object_is_registers heap state book number rule here LoadingMeta place (λ d r. subst (λ p. IsAwaited p d r) place) index 0 way in
-    let enough = spent_within_taken heap state book number rule here (way_seat_is_at_rest heap state book number rule here LoadingMeta place) in
-    let little = taken_is_few_unspent heap state book number rule here (way_seat_is_at_rest heap state book number rule here LoadingMeta place) in
+    let held = way_object_is_registers heap state book number rule here LoadingMeta point (λ d r. subst (λ p. IsAwaited p d r) point) index 0 way in
+    let enough = spent_within_taken heap state book number rule here (way_seat_is_at_rest heap state book number rule here LoadingMeta point) in
+    let little = taken_is_few_unspent heap state book number rule here (way_seat_is_at_rest heap state book number rule here LoadingMeta point) in
     let leaves_none = λ (reply : Reply). reply_is_no_leave number number seat.command reply (λ leaves. subst NamesObject leaves opens.names) in
-    let ends = λ (reply : Reply). keeps_rule_by_forgetting_load heap state book number (Word seat.reached 0) seat.registers (reply_entries number seat reply) (reply_entries number seat reply) (rw place at (seat_fits rule number here).at_place) (rw place at (seat_fits rule number here).answer_at_place) in
+    let ends = λ (reply : Reply). keeps_rule_by_forgetting_load heap state book number (Word seat.reached 0) seat.registers (reply_entries number seat reply) (reply_entries number seat reply) (rw point at (seat_fits rule number here).at_point) (rw point at (seat_fits rule number here).answer_at_point) in
     meta_cases (λ reply. IsMachine heap (loaded_state heap state number (Word seat.reached 0) (with_entries (after_meta seat found reply) (reply_entries_if number seat reply)))
     → Keeps heap state (loaded_state heap state number (Word seat.reached 0) (with_entries (after_meta seat found reply) (reply_entries_if number seat reply))) book book.begun (reply_entries_if number seat reply))
     seat.command found opens.names
-    (λ len. ends (replies.Length (length_of found)) (met_keeps heap state book number rule here place (replies.Length (length_of found)) refl (graph_same_after_length g number (length_of found) seat.command len)
+    (λ len. ends (replies.Length (length_of found)) (met_keeps heap state book number rule here point (replies.Length (length_of found)) refl (graph_same_after_length g number (length_of found) seat.command len)
     (subst (λ n. Accepts g (Said number seat.command (replies.Length n))) (sym size) (accepts_length g number id seat.command opens.works.in_range present made held len))
     (keeps_space_of_length heap false book.history number enough little (length_of found) seat.command len) (leaves_none (replies.Length (length_of found)))))
-    (λ field more. length_keeps heap state book number rule here place (omega (arith, more, size)))
-    (λ field past. ends replies.NoField (met_keeps heap state book number rule here place replies.NoField refl (graph_same_after_no_field g number seat.command field)
+    (λ field more. length_keeps heap state book number rule here point (omega (arith, more, size)))
+    (λ field past. ends replies.NoField (met_keeps heap state book number rule here point replies.NoField refl (graph_same_after_no_field g number seat.command field)
     (accepts_no_field g number id seat.command opens.works.in_range present made held field (omega (arith, past, size)))
     (keeps_space_of_no_field heap false book.history number enough little seat.command field) (leaves_none replies.NoField)))
     machine
 
 -- all that is asked of it
-pub step_kind_of_loading_meta : StepKind (places.Access LoadingMeta)
+pub step_kind_of_loading_meta : StepKind (points.Access LoadingMeta)
 step_kind_of_loading_meta = record {
   keeps = λ heap state book number rule here looks. open_keeps heap state book number rule here;
   shows = λ heap state number.
-      shows_reply_if number (seat_at state number) (places.Access LoadingMeta) (meta_reply_of (seat_at state number).command (at heap state.words (Word (seat_at state number).reached 0))) (meta_reply_is_plain (seat_at state number).command (at heap state.words (Word (seat_at state number).reached 0)));
+      shows_reply_if number (seat_at state number) (points.Access LoadingMeta) (meta_reply_of (seat_at state number).command (at heap state.words (Word (seat_at state number).reached 0))) (meta_reply_is_plain (seat_at state number).command (at heap state.words (Word (seat_at state number).reached 0)));
   looks = record {
-    follows = λ heap state number seat compares placed.
+    follows = λ heap state number seat compares point_is.
         looks_follow_meta heap state number seat _ tt (at heap state.words (Word seat.reached 0)) (meta_reply_of seat.command (at heap state.words (Word seat.reached 0)));
-    goes = λ heap state book rule number placed. looks_go_at_meta heap state book rule number (at heap state.words (Word (seat_at state number).reached 0)) (meta_reply_of (seat_at state number).command (at heap state.words (Word (seat_at state number).reached 0))) placed _;
-    comes = λ heap number seat found placed.
-        comes_from_usual _ (after_meta seat found (meta_reply_of seat.command found)).place (meta_is_usual seat found (meta_reply_of seat.command found));
+    goes = λ heap state book rule number point_is. looks_go_at_meta heap state book rule number (at heap state.words (Word (seat_at state number).reached 0)) (meta_reply_of (seat_at state number).command (at heap state.words (Word (seat_at state number).reached 0))) point_is _;
+    comes = λ heap number seat found point_is.
+        comes_from_usual _ (after_meta seat found (meta_reply_of seat.command found)).point (meta_is_usual seat found (meta_reply_of seat.command found));
   };
-  words = on_words_of_plain_step (places.Access LoadingMeta) (λ heap. open_move) (λ heap number seat. refl) (λ heap number seat is. is) (λ heap number seat low. low)
+  words = on_words_of_plain_step (points.Access LoadingMeta) (λ heap. open_move) (λ heap number seat. refl) (λ heap number seat is. is) (λ heap number seat low. low)
       (λ heap state book rule number here. only_loads (λ word. refl));
-  found = λ heap state book number stands here placed. tells_at_meta heap state book number stands here (λ idle. cc (placed, idle)) LoadingMeta placed (λ e. e) (λ d r e. e);
+  found = λ heap state book number stands here point_is. tells_at_meta heap state book number stands here (λ idle. cc (point_is, idle)) LoadingMeta point_is (λ e. e) (λ d r e. e);
 }

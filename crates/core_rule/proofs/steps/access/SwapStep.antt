@@ -14,12 +14,12 @@ use Rattle.heap_model.specs.account.Phases.{ShowsPhases}
 use Rattle.heap_model.specs.graph.Replies.{Says}
 use Rattle.heap_model.specs.graph.Replies as says
 use Rattle.core_machine.specs.declared.table.address.Address.{Address}
-use Rattle.core_machine.specs.declared.place.Place.TheVariants as places
+use Rattle.core_machine.specs.declared.point.Point.TheVariants as points
 use Rattle.core_machine.specs.seat.FitsAccess.{IsSet, SeatIsAtSet as FitsSets}
 use Rattle.core_machine.specs.Move.{seat_after}
 use Rattle.core_machine.specs.seat.AccessMoves.{swap_move, new_word_of}
 use Rattle.core_rule.proofs.steps.Assemble.{StepKeeps}
-use Rattle.core_rule.proofs.entries.AtRest.{seat_fits, in_flight_has_not_left, spent_within_taken, taken_is_few_unspent, place_awaits_none}
+use Rattle.core_rule.proofs.entries.AtRest.{seat_fits, in_flight_has_not_left, spent_within_taken, taken_is_few_unspent, point_awaits_none}
 use Rattle.core_rule.proofs.graph.CellSet.{Sets, write_sets_cell}
 use Rattle.core_rule.proofs.objects.CellWords.{stamp_of_value_word, register_word_is_value_word, register_names_kept}
 use Rattle.core_rule.proofs.cycle.CycleHistory.{seat_in_cycle_after_own}
@@ -70,20 +70,20 @@ module _ (command : Command) (is : IsSet command) where
       command is
 
 -- the swap keeps the rule
-pub swap_keeps : StepKeeps (places.Access Swapping) (λ heap. swap_move)
-swap_keeps heap state book number rule here place machine =
+pub swap_keeps : StepKeeps (points.Access Swapping) (λ heap. swap_move)
+swap_keeps heap state book number rule here point machine =
     let seat : Seat = seat_at state number in
     let g : Graph = graph_of heap book.history in
     let stands = rule.seats_stand number here in
-    let rest : IsAtRest seat = rw place at (seat_fits rule number here).at_place in
-    let fits : FitsSets seat × (has_barrier_of seat ≡ false → seat.loaded ≡ 0) = rw place at (seat_fits rule number here).way_at_place in
+    let rest : IsAtRest seat = rw point at (seat_fits rule number here).at_point in
+    let fits : FitsSets seat × (has_barrier_of seat ≡ false → seat.loaded ≡ 0) = rw point at (seat_fits rule number here).way_at_point in
     let a_set : IsSet seat.command = fits.0.1 in
-    let way : Finds (node_at g book.made) book.made book.owner book.fragments seat × OldKept book.made book.owner book.fragments seat = rw place at stands.names.way in
+    let way : Finds (node_at g book.made) book.made book.owner book.fragments seat × OldKept book.made book.owner book.fragments seat = rw point at stands.names.way in
     let finds : Finds (node_at g book.made) book.made book.owner book.fragments seat = way.0 in
-    let present : (graph_seat g number).left ≡ false = stands.told.counts.leaves ∙ in_flight_has_not_left rule number here (λ idle. absurd (cc (place, idle))) in
-    let silent : IsSilent seat = rw place at (seat_fits rule number here).answer_at_place in
+    let present : (graph_seat g number).left ≡ false = stands.told.counts.leaves ∙ in_flight_has_not_left rule number here (λ idle. absurd (cc (point, idle))) in
+    let silent : IsSilent seat = rw point at (seat_fits rule number here).answer_at_point in
     let holds : (r : ℕ) → HoldsValue book.made book.owner book.fragments (register_in seat.registers r) (register_value g number r)
-    = λ r. stands.names.registers r (place_awaits_none seat.place (places.Access Swapping) (target_of seat.command) r place (λ none. none)) in
+    = λ r. stands.names.registers r (point_awaits_none seat.point (points.Access Swapping) (target_of seat.command) r point (λ none. none)) in
     let n : ℕ = finds.index in
     let i : ℕ = field_of seat.command in
     let id : Id = id_at book.made n in
@@ -121,7 +121,7 @@ swap_keeps heap state book number rule here place machine =
     = (register_names_kept book.made book.owner book.fragments (register_in seat.registers (source_of seat.command)) cell.value (holds (source_of seat.command)), small) in
     let inside : InTable heap field = subst (InTable heap) arrived ((seat_fits rule number here).way.reached_within, fits.0.2.part_within) in
     keeps_in_cycle_when_idle heap state book number (put heap state.words (Word seat.reached seat.part) word) (seat_after (swap_move number seat) found) seat.command (replies.Was stamp) rule here machine
-    refl (rw place tt) rest (own_list_is_all_told stands.told.list (rw place at stands.told.list.awaits))
+    refl (rw point tt) rest (own_list_is_all_told stands.told.list (rw point at stands.told.list.awaits))
     (legal_after_entry heap false book.history (entries.Said number seat.command (replies.Was stamp)) rule.heap_stands.legal
     (present, fits.0.0.in_range, set_says seat.command a_set g number id object old stamp refers there old_there old_stamp few)
     (keeps_space_of_plain_said heap false book.history number seat.command (replies.Was stamp) refl tt tt (set_shows seat.command a_set heap book.history number stamp)
@@ -145,25 +145,25 @@ swap_keeps heap state book number rule here place machine =
       left = sets.left ∙ stands.told.counts.leaves;
       registers = λ r. subst (λ (vs : List Cell). HoldsValue book.made book.owner book.fragments (register_in seat.registers r) (get_or vs r unset).value) (sym sets.registers) (holds r);
     }
-    (heap_in_cycle_after_swap heap state book number rule here place cell.value cell.stamp (holds (source_of seat.command)) names.0 small word is_word)
+    (heap_in_cycle_after_swap heap state book number rule here point cell.value cell.stamp (holds (source_of seat.command)) names.0 small word is_word)
     (seat_in_cycle_after_own heap (put heap state.words (Word seat.reached seat.part) word) book.owner book.colour book.history (entries.Said number seat.command (replies.Was stamp)) refl number
     (seat_after (swap_move number seat) found)
     (seat_in_cycle_apart heap state.words (put heap state.words (Word seat.reached seat.part) word) book.owner book.owner book.colour book.colour (phase book.history) (last_answer number book.history) (has_left number book.history)
     number seat (seat_after (swap_move number seat) found) record { answered = refl; left = refl; asked = sym silent.none_asked } tt
-    (answer_same_after_swap heap state book number rule here place cell.value cell.stamp (holds (source_of seat.command)) names.0 small word is_word number here) stands.cycle.births stands.cycle)
+    (answer_same_after_swap heap state book number rule here point cell.value cell.stamp (holds (source_of seat.command)) names.0 small word is_word number here) stands.cycle.births stands.cycle)
     refl (reply_is_no_leave number number seat.command (replies.Was stamp) (λ leaves. subst IsSet leaves a_set)))
-    (leaves_cycle_after_swap heap state book number rule here place cell.value cell.stamp (holds (source_of seat.command)) names.0 small word is_word)
+    (leaves_cycle_after_swap heap state book number rule here point cell.value cell.stamp (holds (source_of seat.command)) names.0 small word is_word)
     (marks_go_on_off_way heap state book rule number here (put heap state.words (Word seat.reached seat.part) word) (with_entry book (entries.Said number seat.command (replies.Was stamp)))
-    (seat_after (swap_move number seat) found) (leaves_marking_when_swapped heap state book number rule here place cell.value cell.stamp (holds (source_of seat.command)) names.0 small word is_word) refl refl tt)
+    (seat_after (swap_move number seat) found) (leaves_marking_when_swapped heap state book number rule here point cell.value cell.stamp (holds (source_of seat.command)) names.0 small word is_word) refl refl tt)
 
 -- all that is asked of it
-pub step_kind_of_swapping : StepKind (places.Access Swapping)
+pub step_kind_of_swapping : StepKind (points.Access Swapping)
 step_kind_of_swapping = record {
   keeps = λ heap state book number rule here looks. swap_keeps heap state book number rule here;
-  shows = λ heap state number. shows_plain number (seat_at state number) (places.Access Swapping) _ tt;
-  looks = on_looks_of_reply (places.Access Swapping) (λ heap. swap_move) (λ seat found. replies.Was (stamp_of found)) (λ heap number seat. refl) (λ heap number seat. tt)
+  shows = λ heap state number. shows_plain number (seat_at state number) (points.Access Swapping) _ tt;
+  looks = on_looks_of_reply (points.Access Swapping) (λ heap. swap_move) (λ seat found. replies.Was (stamp_of found)) (λ heap number seat. refl) (λ heap number seat. tt)
       (λ heap number seat found. refl) (λ heap number seat found. refl) (λ heap number seat words found. refl);
-  words = on_words_of_plain_step (places.Access Swapping) (λ heap. swap_move) (λ heap number seat. refl) (λ heap number seat is. is) (λ heap number seat low. low)
+  words = on_words_of_plain_step (points.Access Swapping) (λ heap. swap_move) (λ heap number seat. refl) (λ heap number seat is. is) (λ heap number seat low. low)
       (λ heap state book rule number here. beside (λ g below e. omega (arith, e, below)));
-  found = λ heap state book number stands here placed. tt;
+  found = λ heap state book number stands here point_is. tt;
 }

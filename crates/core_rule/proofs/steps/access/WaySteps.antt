@@ -4,8 +4,8 @@ use Rattle.std.proofs.lemmas.List.{append-nil}
 use Rattle.heap_words.specs.declared.spot.Spot.{Spot}
 use Rattle.core_rule.proofs.Terms.{Heap, is_of, target_of, State, seat_at, has_barrier_of, Seat, IsMachine, Book, Awaits, IsAnswered, node_at, IsAwaited, Rule, AccessStands}
 use Rattle.core_machine.specs.declared.table.address.Address.{Address}
-use Rattle.core_machine.specs.declared.place.Access.{Access}
-use Rattle.core_machine.specs.declared.place.Place.TheVariants as places
+use Rattle.core_machine.specs.declared.point.Access.{Access}
+use Rattle.core_machine.specs.declared.point.Point.TheVariants as points
 use Rattle.core_rule.specs.roots.Roots.{IsInMarking, AtCall, OfRoots}
 use Rattle.core_rule.proofs.frames.SeatFrames.{AddressAt}
 use Rattle.core_rule.proofs.cycle.Unwatched.{IsUnwatched}
@@ -17,19 +17,19 @@ use Rattle.core_rule.proofs.steps.Loads.{seat_in_cycle_after_load, went, loaded_
 use Rattle.core_rule.proofs.graph.ToldGraph.{told_graph}
 
 module _ (heap : Heap) (state : State) (book : Book) (number : ℕ) (rule : Rule heap state book) (here : number < heap.seats)
-    (from : Access) (place : (seat_at state number).place ≡ places.Access from)
-    (unanswered : ¬ IsAnswered (places.Access from)) (unnamed : (d r : ℕ) → ¬ IsAwaited (places.Access from) d r) where
-  busy : ¬ IsAnswered (seat_at state number).place
-  busy answered = unanswered (subst IsAnswered place answered)
+    (from : Access) (point : (seat_at state number).point ≡ points.Access from)
+    (unanswered : ¬ IsAnswered (points.Access from)) (unnamed : (d r : ℕ) → ¬ IsAwaited (points.Access from) d r) where
+  busy : ¬ IsAnswered (seat_at state number).point
+  busy answered = unanswered (subst IsAnswered point answered)
 
-  -- the (seat_at state number) at another place of access, where it has reached this fragment
+  -- the (seat_at state number) at another point of access, where it has reached this fragment
   abbrev pub on_way : ℕ → ℕ → ℕ → Spot → Access → Seat
-  on_way reached links part address to = went (seat_at state number) (seat_at state number).registers reached links part address (seat_at state number).loaded (places.Access to) (seat_at state number).looks []
+  on_way reached links part address to = went (seat_at state number) (seat_at state number).registers reached links part address (seat_at state number).loaded (points.Access to) (seat_at state number).looks []
 
   pub keeps_rule_by_way_load : (a : Address) (reached links part : ℕ) (address : Spot) (to : Access)
-      → Awaits (told_graph heap book) book.made book.owner book.fragments number (on_way reached links part address to) (places.Access to) []
+      → Awaits (told_graph heap book) book.made book.owner book.fragments number (on_way reached links part address to) (points.Access to) []
       → AccessStands (node_at (told_graph heap book) book.made) book.made book.owner book.fragments (on_way reached links part address to) to
-      → AddressAt heap state.words book (on_way reached links part address to) (places.Access to)
+      → AddressAt heap state.words book (on_way reached links part address to) (points.Access to)
       → IsUnwatched (has_barrier_of (seat_at state number)) to
       → (IsInMarking state.collector → OfRoots (IsReachedNow heap state book) (seat_at state number) → AtCall (IsReachedNow heap state book) (on_way reached links part address to) to)
       → IsMachine heap (loaded_state heap state number a (on_way reached links part address to))
@@ -37,10 +37,10 @@ module _ (heap : Heap) (state : State) (book : Book) (number : ℕ) (rule : Rule
   keeps_rule_by_way_load a reached links part address to names way right unwatched comes machine =
       let stands = rule.seats_stand number here in
       let new : Seat = on_way reached links part address to in
-      keeps_rule_by_silent_load heap state book number rule here a (seat_at state number).registers reached links part address (seat_at state number).loaded (places.Access to) (seat_at state number).looks [] machine (rw place tt) tt
-      (λ r unawaited. stands.names.registers r (λ awaited. unnamed (target_of (seat_at state number).command) r (subst (λ p. IsAwaited p (target_of (seat_at state number).command) r) place awaited)))
+      keeps_rule_by_silent_load heap state book number rule here a (seat_at state number).registers reached links part address (seat_at state number).loaded (points.Access to) (seat_at state number).looks [] machine (rw point tt) tt
+      (λ r unawaited. stands.names.registers r (λ awaited. unnamed (target_of (seat_at state number).command) r (subst (λ p. IsAwaited p (target_of (seat_at state number).command) r) point awaited)))
       (own_list_after_entry (told_graph heap book) book.made book.owner book.fragments number (seat_at state number) book.history busy stands.told.list (told_graph heap book) book.history new [] [] [] refl refl (sym (append-nil (filter (is_of number) book.history))) names)
       way right
-      (began_without_entry book.history number (book.begun number) (seat_at state number).place (places.Access to) busy stands.told.began)
-      (seat_in_cycle_after_load heap state book number rule here a (seat_at state number).registers reached links part address (seat_at state number).loaded (places.Access to) (seat_at state number).looks [] machine unwatched)
+      (began_without_entry book.history number (book.begun number) (seat_at state number).point (points.Access to) busy stands.told.began)
+      (seat_in_cycle_after_load heap state book number rule here a (seat_at state number).registers reached links part address (seat_at state number).loaded (points.Access to) (seat_at state number).looks [] machine unwatched)
       (λ marks roots. roots_hold_on_way (IsReachedNow heap state book) (seat_at state number) new to refl refl (comes marks roots) roots)

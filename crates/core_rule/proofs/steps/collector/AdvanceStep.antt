@@ -96,11 +96,11 @@ module _ (heap : Heap) (state : State) (book : Book) (rule : Rule heap state boo
     answered_sweep : (r : ℕ) → r < heap.seats → (seat_at state r).left ≡ false → (seat_at state r).answered % cycle_phases ≡ sweep_phase
     answered_sweep r below present = ap (λ n. n % cycle_phases) (each_seat_answered_phase heap state book rule has_looked.all r below present) ∙ swept
 
-    placed_answered : (r : ℕ) → r < heap.seats → HasPlace (seat_at state r) (seat_at state r).place → (seat_at state r).answered % cycle_phases ≡ sweep_phase
+    placed_answered : (r : ℕ) → r < heap.seats → HasPlace (seat_at state r) (seat_at state r).point → (seat_at state r).answered % cycle_phases ≡ sweep_phase
     placed_answered r below has = answered_sweep r below (placed_seat_has_not_left heap (seat_at state r) (seat_fits rule r below) has)
 
     -- so its spine stands in the half of the next one, and so do those of arrays
-    hand_here : (r : ℕ) → r < heap.seats → HasPlace (seat_at state r) (seat_at state r).place → (seat_at state r).spine.half ≡ half
+    hand_here : (r : ℕ) → r < heap.seats → HasPlace (seat_at state r) (seat_at state r).point → (seat_at state r).spine.half ≡ half
     hand_here r below has = seat_spine_in_next_half heap state book rule.space.halves r below (λ early. let fifth = placed_answered r below has in let third = early.behind in omega (arith, fifth, third)) has
 
     array_here : (i : ℕ) → i < length book.made → IsKept book.owner book.fragments i → (nodes_in heap book i).array ≡ true → (book.spines i).half ≡ half
@@ -138,13 +138,13 @@ module _ (heap : Heap) (state : State) (book : Book) (rule : Rule heap state boo
     }
 
     -- a call that has loaded the place of a spine is one of a seat that has answered the sweep
-    address_lets : (r : ℕ) → r < heap.seats → AddressStands heap words nodes book.owner book.fragments book.spines book.spine_owner (seat_at state r) (seat_at state r).place
-        → AddressStands heap words nodes book.owner book.fragments book.spines lets (seat_at state r) (seat_at state r).place
+    address_lets : (r : ℕ) → r < heap.seats → AddressStands heap words nodes book.owner book.fragments book.spines book.spine_owner (seat_at state r) (seat_at state r).point
+        → AddressStands heap words nodes book.owner book.fragments book.spines lets (seat_at state r) (seat_at state r).point
     address_lets r below stands = by (seat_at state r).left refl
       where
-        by : (left : Bool) → (seat_at state r).left ≡ left → AddressStands heap words nodes book.owner book.fragments book.spines lets (seat_at state r) (seat_at state r).place
+        by : (left : Bool) → (seat_at state r).left ≡ left → AddressStands heap words nodes book.owner book.fragments book.spines lets (seat_at state r) (seat_at state r).point
         by true gone = subst (AddressStands heap words nodes book.owner book.fragments book.spines lets (seat_at state r)) (sym ((seat_fits rule r below).gone gone).idle) tt
-        by false present = address_stands_after_letting_go half book.spine_owner heap words nodes book.owner book.fragments book.spines (seat_at state r) (seat_at state r).place
+        by false present = address_stands_after_letting_go half book.spine_owner heap words nodes book.owner book.fragments book.spines (seat_at state r) (seat_at state r).point
             (λ late. let upto = late.upto in absurd (omega (arith, upto, answered_sweep r below present))) stands
 
     seat_lets : (r : ℕ) → r < heap.seats → SeatStands heap words told r (seat_at state r) → SeatStands heap words (record told { spine_owner = lets }) r (seat_at state r)

@@ -72,7 +72,7 @@ module _ (heap : Heap) (state : State) (book : Book) (rule : Rule heap state boo
         record { of_copying = tt; few = copied_array_has_few_words heap state book rule (Locating array) locating; none = refl; no_words = refl }
         (arrays_await_visit heap state book rule (Locating array) locating)
         record { found = located; own = own; left = λ same. left_half_is_not_next state.collector.phase (sym left.1 ∙ same ∙ half) })
-    | inr other ↦ rw other.0 (leads_to_seen_stage heap state book rule (Locating array) locating free (record array.visit { place = array.visit.place + 1 }) located.marked
+    | inr other ↦ rw other.0 (leads_to_seen_stage heap state book rule (Locating array) locating free (record array.visit { position = array.visit.position + 1 }) located.marked
         (arrays_to_visit_behind heap state book rule array.visit (in_this other.1) (arrays_await_visit heap state book rule (Locating array) locating)))
   ]
 

@@ -16,7 +16,7 @@ use Rattle.core_rule.proofs.objects.ObjectFrames.{SameKept}
 use Rattle.core_rule.proofs.owners.DeadOwners.{set_bits_are_dead}
 use Rattle.core_rule.proofs.owners.DeadOwners as owners
 use Rattle.core_rule.proofs.spines.OtherWords.{LeavesPlaces, LeavesSpines, leaves_places_of_spines}
-use Rattle.core_rule.proofs.dying.SweepSums.{at_place, dead_sum_falls_by_group}
+use Rattle.core_rule.proofs.dying.SweepSums.{at_position, dead_sum_falls_by_group}
 use Rattle.core_rule.proofs.dying.SweptSpace.{CopiesNone, Sweeps, space_stands_after_sweep}
 use Rattle.core_rule.proofs.steps.Assemble.{Keeps}
 use Rattle.core_rule.proofs.owners.OwnerLemmas.{dead_bit_is_dead}
@@ -68,7 +68,7 @@ module _ (heap : Heap) (state : State) (book : Book) (rule : Rule heap state boo
   spine_words = words_of_object (nodes_in heap book)
 
   -- the spine words of what is freed are returned next
-  counts : counted ≡ sum_upto 16 (at_place heap spine_words book.owner group dead told.1)
+  counts : counted ≡ sum_upto 16 (at_position heap spine_words book.owner group dead told.1)
   counts = subst (SweepCounts spine_words book.owner) freeing rule.space.budgets.counts
 
   returns_next : returning (after_freed heap group counted) ≡ counted

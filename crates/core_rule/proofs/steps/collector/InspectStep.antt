@@ -29,14 +29,14 @@ module _ (heap : Heap) (state : State) (book : Book) (rule : Rule heap state boo
   free = record { of_copying = tt; few = tt; none = refl; no_words = refl }
 
   inspect_leads : (o : Option ℕ) → array_length_of (at heap state.words (Word f 0)) ≡ o → LeadsTo heap state book (after_inspected heap visit o)
-  inspect_leads None told = leads_to_seen_stage heap state book rule (Inspecting visit) inspecting free (record visit { place = visit.place + 1 }) marked
+  inspect_leads None told = leads_to_seen_stage heap state book rule (Inspecting visit) inspecting free (record visit { position = visit.position + 1 }) marked
       (arrays_to_visit_behind heap state book rule visit none_here (arrays_await_visit heap state book rule (Inspecting visit) inspecting))
     where
       none_here : (i : ℕ) → i < length book.made → fragment_at (book.fragments i) 0 ≡ f → IsKept book.owner book.fragments i → (node_at (graph_of heap book.history) book.made i).array ≡ true
           → (book.spines i).half ≡ (next_spine heap state.words).half
       none_here i below same kept an_array = absurd (cc (told, first_word_tells_length heap state book rule f i 0 (ap book.owner (sym same) ∙ kept) refl an_array))
   inspect_leads (Some cells) told =
-      let begun = marked_meta_begins_array heap state book rule f (copying_is_after_marking heap state book rule (Inspecting visit) inspecting) (marked visit.place fits.is_marked) cells told in
+      let begun = marked_meta_begins_array heap state book rule f (copying_is_after_marking heap state book rule (Inspecting visit) inspecting) (marked visit.position fits.is_marked) cells told in
       leads_to_stage_without_copy heap state book rule (Inspecting visit) inspecting free (after_inspected heap visit (Some cells)) record { of_copying = tt; few = begun.1; none = refl; no_words = refl }
       (arrays_await_visit heap state book rule (Inspecting visit) inspecting) (marked, begun.0)
 

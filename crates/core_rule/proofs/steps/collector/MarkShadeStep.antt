@@ -13,7 +13,7 @@ use Rattle.core_rule.proofs.marking.Paths.{grey_stays_grey}
 use Rattle.core_rule.proofs.marking.Scans.{scan_stands_at_word, pass_stands_while_scanning, sweep_stands_while_scanning, scan_is_of_marking}
 use Rattle.core_rule.proofs.marking.ScannedWords.{seen_up_to_next}
 use Rattle.core_rule.proofs.marking.SeatShades.{words_marked, same_sources_after_mark, led_before_mark, reached_after_mark}
-use Rattle.core_rule.proofs.marking.ShadeMarks.{grey_is_part}
+use Rattle.core_rule.proofs.marking.ShadeMarks.{grey_is_kept_fragment}
 use Rattle.core_rule.proofs.steps.collector.ColourTurn.{keeps_rule_by_colour_turn}
 use Rattle.core_rule.proofs.steps.collector.MarkedTarget.{marked_target_recolours}
 use Rattle.core_rule.proofs.steps.TurnSteps.{StageKeeps}
@@ -62,7 +62,7 @@ module _ (heap : Heap) (state : State) (book : Book) (rule : Rule heap state boo
 
   marks : MarkingStands heap words book.owner coloured book.fragments state.collector.phase (scan_at (scan_step scan) next)
   marks = marking_stands_at_stage heap words book.owner coloured book.fragments state.collector.phase (scan_at (scan_step scan) next) fits.marks.for_marking (scan_is_of_marking (scan_step scan) next)
-      (grey_is_part heap state.words words book.owner book.colour book.fragments m may.part same rule.marks_stand.heap_marks.grey)
+      (grey_is_kept_fragment heap state.words words book.owner book.colour book.fragments m may.kept_fragment same rule.marks_stand.heap_marks.grey)
       (scan_stands_at_word heap words book.owner coloured book.fragments (scan_step scan) next (tells_no_spine_still heap state.words words f (same f) scanned.4) seen)
       (scan_has_few_words (scan_step scan) next few_steps) (pass_stands_while_scanning coloured (scan_step scan) next)
       (sweep_stands_while_scanning heap book.owner coloured state.collector.phase (scan_step scan) next) (nothing_is_dead heap state book rule fits.marks.for_marking (subst HasMarked shading))

@@ -9,7 +9,7 @@ use Rattle.core_machine.specs.declared.collector.stage.Stage.TheVariants as stag
 use Rattle.core_rule.proofs.book.OwnersGo.{owners_go_on_by_settling}
 use Rattle.core_rule.proofs.marking.MarkingStages.{OfMarking, marking_is_plain}
 use Rattle.core_rule.proofs.marking.Marks.{marking_stands_at_stage, nothing_is_dead}
-use Rattle.core_rule.proofs.marking.GreyPlaces.{lowest_is_grey, pass_stands_at_next_group, nothing_is_grey, pass_stands_anew, is_seen_at_start}
+use Rattle.core_rule.proofs.marking.GreyPositions.{lowest_is_grey, pass_stands_at_next_group, nothing_is_grey, pass_stands_anew, is_seen_at_start}
 use Rattle.core_rule.proofs.marking.SettledBook.{heap_stands_after_settling, seat_stands_after_settling, marking_stands_after_settling}
 use Rattle.core_rule.proofs.dying.DyingWords.{settled_book}
 use Rattle.core_rule.proofs.halves.HalvesFrames.{IsPlain}
@@ -76,10 +76,10 @@ module _ (heap : Heap) (state : State) (book : Book) (rule : Rule heap state boo
       | inr all ↦ rw all.0 (behind_all (omega (arith, all.1)) found refl)
     ]
 
-  passes_on : (place : Option ℕ) → lowest_grey_of word ≡ place → KeepsAt (after_pass heap group found place)
+  passes_on : (position : Option ℕ) → lowest_grey_of word ≡ position → KeepsAt (after_pass heap group found position)
   passes_on None is = after_none is
-  passes_on (Some place) is = goes_further (stages.Scanning (record { fragment = 16 * group + place; part = 0; steps = 0 })) tt (
-    is_seen_at_start heap state.words book.colour (16 * group + place) (lowest_is_grey heap state.words book.colour group rule.machine.table passes.group_within rule.heap_stands.cycle.marks place is),
+  passes_on (Some position) is = goes_further (stages.Scanning (record { fragment = 16 * group + position; part = 0; steps = 0 })) tt (
+    is_seen_at_start heap state.words book.colour (16 * group + position) (lowest_is_grey heap state.words book.colour group rule.machine.table passes.group_within rule.heap_stands.cycle.marks position is),
     λ later. absurd (omega (arith, later)),
   ) tt tt tt
 

@@ -121,7 +121,7 @@ module _ (heap : Heap) (state : State) (book : Book) (rule : Rule heap state boo
     pub ends : EndsPhase state.collector.phase state.collector.stage
     pub lets : LetsGo (next_spine heap state.words).half state.collector.phase book.spine_owner spine_owner
     pub alive : state.collector.phase % cycle_phases ≡ sweep_phase → (f i k : ℕ) → book.owner f ≢ Dead i k
-    pub answered : state.collector.phase % cycle_phases ≡ sweep_phase → (r : ℕ) → r < heap.seats → HasPlace (seat_at state r) (seat_at state r).place → (seat_at state r).answered % cycle_phases ≡ sweep_phase
+    pub answered : state.collector.phase % cycle_phases ≡ sweep_phase → (r : ℕ) → r < heap.seats → HasPlace (seat_at state r) (seat_at state r).point → (seat_at state r).answered % cycle_phases ≡ sweep_phase
     pub heap_lets : HeapStands heap words_next later → HeapStands heap words_next (let_later spine_owner)
     pub seat_lets : (r : ℕ) → r < heap.seats → SeatStands heap words_next later r (seat_at state r) → SeatStands heap words_next (let_later spine_owner) r (seat_at state r)
 

@@ -2,7 +2,7 @@
 use Rattle.std.specs.Option.{option_map_or}
 use Rattle.std.proofs.Common.{◌≡◌, ℕ, ◌<◌, ◌≤◌, Option, Some, None, inl, inr, refl, sym, ap, ◌∙◌, subst, arith}
 use Rattle.std.proofs.lemmas.Bool.Decides.{eqb_tells}
-use Rattle.core_rule.proofs.Terms.{Heap, array_words, phase, IsScanning, Stage, Word, State, pointer_in, array_length_of, at, Book, WordPointsTo, IsBetween, IsSeen, IsPart}
+use Rattle.core_rule.proofs.Terms.{Heap, array_words, phase, IsScanning, Stage, Word, State, pointer_in, array_length_of, at, Book, WordPointsTo, IsBetween, IsSeen, IsKeptFragment}
 use Rattle.core_rule.proofs.Terms.{ScanStands, IsFewWords, PassStands, MarkingStands, SweepStands, HasMarked, Rule}
 use Rattle.core_machine.specs.collector.Marking.{part_after, scan_step, after_scan_load, array_at, after_first_load}
 use Rattle.core_machine.specs.declared.collector.stage.Scan.{Scan}
@@ -41,8 +41,8 @@ module _ (heap : Heap) (state : State) (book : Book) (rule : Rule heap state boo
   none_there : 0 < scan.part → TellsNoSpine heap state.words f
   none_there = scanned.1
 
-  part_of : IsPart book.owner f
-  part_of = rule.marks_stand.heap_marks.grey f seen.grey
+  source_fragment : IsKeptFragment book.owner f
+  source_fragment = rule.marks_stand.heap_marks.grey f seen.grey
 
   cycle : IsBetween 1 5 (phase book.history)
   cycle = let third = fits.marks.for_marking in let same = rule.collector_stands.phase_told in record { from = omega (arith, third, same); upto = omega (arith, third, same) }
@@ -70,14 +70,14 @@ module _ (heap : Heap) (state : State) (book : Book) (rule : Rule heap state boo
   loaded : TellsNoSpine heap state.words f → (found : Option ℕ) → pointer_in scan.part word ≡ found → MarksNow (after_scan_load scan next found)
   loaded none None is = marks_after (after_scan_load scan next None) (scan_is_of_marking (scan_step scan) next)
       (scan_stands_at_word heap state.words book.owner book.colour book.fragments (scan_step scan) next none
-      (seen_up_to_next heap state book rule f part_of state.words book.colour scan.part next (λ p g leads. leads) seen (λ g leads. absurd (cc (is, lead g leads))) (next_part_comes_after heap state book rule f part_of scan.part)))
+      (seen_up_to_next heap state book rule f source_fragment state.words book.colour scan.part next (λ p g leads. leads) seen (λ g leads. absurd (cc (is, lead g leads))) (next_part_comes_after heap state book rule f source_fragment scan.part)))
       (scan_has_few_words (scan_step scan) next (omega (arith, few_steps)))
       (pass_stands_while_scanning book.colour (scan_step scan) next) (sweep_stands_while_scanning heap book.owner book.colour state.collector.phase (scan_step scan) next)
   loaded none (Some m) is = marks_after (stages.Shading (scan_step scan) m next) tt (
     seen,
     (λ g leads. inl (sym is ∙ lead g leads)),
-    grey_target_may_be_marked heap state book rule f part_of cycle seen.grey scan.part m (leads_by_word heap state.words f scan.part m fits.fragment_within fits.part_within is),
-    next_part_comes_after heap state book rule f part_of scan.part,
+    grey_target_may_be_marked heap state book rule f source_fragment cycle seen.grey scan.part m (leads_by_word heap state.words f scan.part m fits.fragment_within fits.part_within is),
+    next_part_comes_after heap state book rule f source_fragment scan.part,
     none,
   )
       tt tt tt
@@ -85,10 +85,10 @@ module _ (heap : Heap) (state : State) (book : Book) (rule : Rule heap state boo
   -- of a fragment whose first word is an array's meta the place of its spine is loaded next
   located : (cells : ℕ) → array_length_of (at heap state.words (Word f 0)) ≡ Some cells → MarksNow (stages.Addressing (scan_step scan) (array_words cells))
   located cells told =
-      let first = array_length_is_objects heap state book rule f part_of cells told in
+      let first = array_length_is_objects heap state book rule f source_fragment cells told in
       marks_after (stages.Addressing (scan_step scan) (array_words cells)) tt
-      (sentinel_words_are_seen heap state book rule f part_of seen.grey first.0 first.1, ap (λ length. option_map_or array_words length 0) (sym told))
-      (omega (arith, array_has_few_cells heap state book rule f part_of first.1, first.2)) tt tt
+      (sentinel_words_are_seen heap state book rule f source_fragment seen.grey first.0 first.1, ap (λ length. option_map_or array_words length 0) (sym told))
+      (omega (arith, array_has_few_cells heap state book rule f source_fragment first.1, first.2)) tt tt
 
   abbrev MarksAt : Option ℕ → Type 0
   MarksAt length = MarksNow (after_first_load scan length next (pointer_in scan.part word))

@@ -10,7 +10,7 @@ use Rattle.core_rule.proofs.book.BookGoing.{by_spine, book_goes_on_with_mark}
 use Rattle.core_rule.proofs.marking.Marks.{marking_stands_at_stage, nothing_is_dead}
 use Rattle.core_rule.proofs.marking.Scans.{scan_stands_at_spine, pass_stands_at_spine, sweep_stands_at_spine, spine_scan_is_of_marking, spread_word_is_seen}
 use Rattle.core_rule.proofs.marking.SeatShades.{words_marked, same_sources_after_mark, reached_after_mark}
-use Rattle.core_rule.proofs.marking.ShadeMarks.{grey_is_part, is_seen_after_shade, is_spine_after_shade}
+use Rattle.core_rule.proofs.marking.ShadeMarks.{grey_is_kept_fragment, is_seen_after_shade, is_spine_after_shade}
 use Rattle.core_rule.proofs.steps.collector.ColourTurn.{keeps_rule_by_colour_turn}
 use Rattle.core_rule.proofs.steps.collector.MarkedTarget.{marked_target_recolours}
 use Rattle.core_rule.proofs.steps.TurnSteps.{StageKeeps}
@@ -50,16 +50,16 @@ module _ (heap : Heap) (state : State) (book : Book) (rule : Rule heap state boo
   may = scanned.3
 
   is_spine : IsSpineOf heap words s
-  is_spine = is_spine_after_shade heap state.words words book.owner book.colour book.fragments m may.part same s scanned.1
+  is_spine = is_spine_after_shade heap state.words words book.owner book.colour book.fragments m may.kept_fragment same s scanned.1
 
   -- the scan has seen to one more word
   seen : IsSeen heap words coloured f (4 + (s.index + 1))
-  seen = spread_word_is_seen heap words coloured f s.index m (is_seen_after_shade heap state.words words book.owner book.colour book.fragments m may.part same f (4 + s.index) scanned.0)
+  seen = spread_word_is_seen heap words coloured f s.index m (is_seen_after_shade heap state.words words book.owner book.colour book.fragments m may.kept_fragment same f (4 + s.index) scanned.0)
       (leads_now_where_same heap state.words words f (same f) (4 + s.index) m scanned.2) (mark_marks_fragment book.colour m)
 
   marks : MarkingStands heap words book.owner coloured book.fragments state.collector.phase (after_spread s)
   marks = marking_stands_at_stage heap words book.owner coloured book.fragments state.collector.phase (after_spread s) fits.on.marks.for_marking (spine_scan_is_of_marking next)
-      (grey_is_part heap state.words words book.owner book.colour book.fragments m may.part same rule.marks_stand.heap_marks.grey)
+      (grey_is_kept_fragment heap state.words words book.owner book.colour book.fragments m may.kept_fragment same rule.marks_stand.heap_marks.grey)
       (scan_stands_at_spine heap words book.owner coloured book.fragments next record { as_many = is_spine.as_many; there = is_spine.there } seen)
       (spine_scan_has_few_words next few (omega (arith, fits.on.index_within)) (omega (arith, fits.steps_made))) (pass_stands_at_spine coloured next)
       (sweep_stands_at_spine heap book.owner coloured state.collector.phase next) (nothing_is_dead heap state book rule fits.on.marks.for_marking (subst HasMarked spreading))

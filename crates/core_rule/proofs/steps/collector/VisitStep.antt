@@ -16,7 +16,7 @@ use Rattle.core_rule.proofs.turns.WorkCases.{after_seen_cases}
 
 module _ (heap : Heap) (state : State) (book : Book) (rule : Rule heap state book) (group : ℕ) (visiting : state.collector.stage ≡ stages.Copying (Visiting group)) where
   abbrev begun : Visit
-  begun = record { group = group; marked = marked_bits_of (at heap state.words (Control group)); place = 0 }
+  begun = record { group = group; marked = marked_bits_of (at heap state.words (Control group)); position = 0 }
 
   abbrev head : ℕ → ℕ
   head i = fragment_at (book.fragments i) 0

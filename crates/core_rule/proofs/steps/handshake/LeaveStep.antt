@@ -13,8 +13,8 @@ use Rattle.heap_model.specs.account.Phases.{ShowsPhases}
 use Rattle.heap_model.specs.graph.Replies.{Says}
 use Rattle.heap_model.specs.graph.Graph.{GraphSeat}
 use Rattle.core_machine.specs.declared.table.address.Address.TheVariants.{Answer}
-use Rattle.core_machine.specs.declared.place.Leaving.TheVariants.{Parting}
-use Rattle.core_machine.specs.declared.place.Place.TheVariants as places
+use Rattle.core_machine.specs.declared.point.Leaving.TheVariants.{Parting}
+use Rattle.core_machine.specs.declared.point.Point.TheVariants as points
 use Rattle.core_machine.specs.declared.seat.register.Register.TheVariants as registers
 use Rattle.core_machine.specs.seat.HandshakeMoves.{leave_move}
 use Rattle.core_machine.specs.Moves.{seat_after}
@@ -49,32 +49,32 @@ abbrev gone : Graph → ℕ → GraphSeat
 gone g number = record (graph_seat g number) { registers = replicate 16 unset; left = true }
 
 -- a leave keeps the rule
-pub leave_keeps : StepKeeps (places.Leaving Parting) (λ heap. leave_move)
-leave_keeps heap state book number rule here place machine =
+pub leave_keeps : StepKeeps (points.Leaving Parting) (λ heap. leave_move)
+leave_keeps heap state book number rule here point machine =
     let seat : Seat = seat_at state number in
     let g : Graph = graph_of heap book.history in
     let words : List ℕ = put heap state.words (Answer number) LEFT in
     let stands = rule.seats_stand number here in
-    let at_place : IsAtRest seat × (seat.command ≡ commands.Leave) × (seat.reserve ≡ []) = rw place at (seat_fits rule number here).at_place in
-    let present : (graph_seat g number).left ≡ false = stands.told.counts.leaves ∙ in_flight_has_not_left rule number here (λ idle. absurd (cc (place, idle))) in
+    let at_point : IsAtRest seat × (seat.command ≡ commands.Leave) × (seat.reserve ≡ []) = rw point at (seat_fits rule number here).at_point in
+    let present : (graph_seat g number).left ≡ false = stands.told.counts.leaves ∙ in_flight_has_not_left rule number here (λ idle. absurd (cc (point, idle))) in
     let small : number < 16 = omega (arith, here, rule.machine.limits.seats_fit) in
     let now : Graph = after_reply g number seat.command replies.Done in
-    let grown : now ≡ leave g number = ap (λ c. after_reply g number c replies.Done) at_place.1 in
+    let grown : now ≡ leave g number = ap (λ c. after_reply g number c replies.Done) at_point.1 in
     let changes : SeatChanges g now number = rw grown (seat_changes_with_seat g number (gone g number) present refl refl) in
     let party_now : graph_seat now number ≡ gone g number = ap (λ x. graph_seat x number) grown ∙ party_with_seat_is_new g number (gone g number) present in
-    let empty : length seat.reserve ≡ 0 = ap length at_place.2 in
+    let empty : length seat.reserve ≡ 0 = ap length at_point.2 in
     let same : SameFragments heap state.words words = same_fragments_after_answer heap state.words number LEFT small in
     let objects : Objects heap words g book.made book.owner book.fragments book.spines
     = objects_with_same_words heap state.words words g book.made book.owner book.fragments book.spines (λ f i k part is within. same.parts f part) (λ i j below is within. same.spines.spines _ _) rule.heap_stands.objects in
     let left : Entry = entries.Said number seat.command replies.Done in
-    let leaves : is_leave_of number left ≡ true = ap (λ c. is_leave_of number (entries.Said number c replies.Done)) at_place.1 ∙ eq-eqb number number refl in
+    let leaves : is_leave_of number left ≡ true = ap (λ c. is_leave_of number (entries.Said number c replies.Done)) at_point.1 ∙ eq-eqb number number refl in
     let told = stands.cycle.answers_told in
     keeps_in_cycle_when_idle heap state book number words (seat_after (leave_move number seat) (at heap state.words (Answer number))) seat.command replies.Done rule here machine
-    refl (rw place tt) at_place.0 (own_list_is_all_told stands.told.list (rw place at stands.told.list.awaits))
+    refl (rw point tt) at_point.0 (own_list_is_all_told stands.told.list (rw point at stands.told.list.awaits))
     (legal_after_entry heap false book.history (entries.Said number seat.command replies.Done) rule.heap_stands.legal
-    (present, subst IsCommand (sym at_place.1) tt, subst (λ c. Says g number c replies.Done) (sym at_place.1) refl)
-    (keeps_space_of_plain_said heap false book.history number seat.command replies.Done refl tt tt (subst (λ c. ShowsPhases heap false book.history number c replies.Done) (sym at_place.1) tt)
-    (spent_within_taken heap state book number rule here at_place.0) (omega (arith, empty, reserve_and_spent_is_taken heap state book number rule here at_place.0))))
+    (present, subst IsCommand (sym at_point.1) tt, subst (λ c. Says g number c replies.Done) (sym at_point.1) refl)
+    (keeps_space_of_plain_said heap false book.history number seat.command replies.Done refl tt tt (subst (λ c. ShowsPhases heap false book.history number c replies.Done) (sym at_point.1) tt)
+    (spent_within_taken heap state book number rule here at_point.0) (omega (arith, empty, reserve_and_spent_is_taken heap state book number rule here at_point.0))))
     record { controls = same.controls; unkept = λ f part free within. same.parts f part; spines = leaves_spines_after_answer heap state.words LEFT number small }
     (graph_replies_of_registers g now number changes heap words book rule.heap_stands.ids objects)
     record {
@@ -121,13 +121,13 @@ leave_keeps heap state book number rule here place machine =
     all_holds i {value} is = subst (λ h. regs.HoldsValue book.made book.owner book.fragments h value) (sym (all_nil registers.Nil 16 i)) is
 
 -- all that is asked of it
-pub step_kind_of_parting : StepKind (places.Leaving Parting)
+pub step_kind_of_parting : StepKind (points.Leaving Parting)
 step_kind_of_parting = record {
   keeps = λ heap state book number rule here looks. leave_keeps heap state book number rule here;
-  shows = λ heap state number. shows_plain number (seat_at state number) (places.Leaving Parting) _ tt;
-  looks = on_looks_of_reply (places.Leaving Parting) (λ heap. leave_move) (λ seat found. replies.Done) (λ heap number seat. refl) (λ heap number seat. tt)
+  shows = λ heap state number. shows_plain number (seat_at state number) (points.Leaving Parting) _ tt;
+  looks = on_looks_of_reply (points.Leaving Parting) (λ heap. leave_move) (λ seat found. replies.Done) (λ heap number seat. refl) (λ heap number seat. tt)
       (λ heap number seat found. refl) (λ heap number seat found. refl) (λ heap number seat words found. refl);
-  words = on_words_of_plain_step (places.Leaving Parting) (λ heap. leave_move) (λ heap number seat. refl) (λ heap number seat is. is) (λ heap number seat low. low)
+  words = on_words_of_plain_step (points.Leaving Parting) (λ heap. leave_move) (λ heap number seat. refl) (λ heap number seat is. is) (λ heap number seat low. low)
       (λ heap state book rule number here. beside (λ g below e. omega (arith, e, here, rule.machine.limits.seats_fit)));
-  found = λ heap state book number stands here placed. tt;
+  found = λ heap state book number stands here point_is. tt;
 }

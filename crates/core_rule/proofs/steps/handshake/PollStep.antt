@@ -10,8 +10,8 @@ use Rattle.core_rule.proofs.Terms.{with_entries, after_call, IsMachine, Book, Se
 use Rattle.heap_model.specs.declared.reply.Reply.TheVariants as replies
 use Rattle.heap_model.specs.Command.{IsCommand}
 use Rattle.core_machine.specs.declared.table.address.Address.TheVariants.{Phase}
-use Rattle.core_machine.specs.declared.place.Place.TheVariants as places
-use Rattle.core_machine.specs.declared.place.Polling.TheVariants.{Asking, Shading, Answering}
+use Rattle.core_machine.specs.declared.point.Point.TheVariants as points
+use Rattle.core_machine.specs.declared.point.Polling.TheVariants.{Asking, Shading, Answering}
 use Rattle.core_machine.specs.seat.HandshakeMoves.{poll_move, phase_told}
 use Rattle.core_machine.specs.seat.Fits.{AnswersThePhase}
 use Rattle.core_machine.specs.seat.Handshake.{roots, answer_next, polling_over, after_phase_load}
@@ -23,7 +23,7 @@ use Rattle.core_rule.proofs.marking.Marks.{roots_hold_off_way, leaves_by_same_so
 use Rattle.core_rule.proofs.book.BookGoing.{book_goes_on_with_history}
 use Rattle.core_rule.proofs.steps.Assemble.{Keeps, keeps_rule_after_step, space_stands_after_step, StepKeeps}
 use Rattle.core_rule.proofs.roots.Roots.{roots_stand_at_answer}
-use Rattle.core_rule.proofs.entries.AtRest.{seat_fits, in_flight_has_not_left, place_awaits_none}
+use Rattle.core_rule.proofs.entries.AtRest.{seat_fits, in_flight_has_not_left, point_awaits_none}
 use Rattle.core_rule.proofs.entries.InFlight.{began_without_entry}
 use Rattle.core_rule.proofs.graph.LocalReplies.{IsLocalReply, HoldAll}
 use Rattle.core_rule.proofs.steps.LocalStep.{keeps_rule_by_local_reply}
@@ -59,7 +59,7 @@ asks_at : (phase answer asked : ℕ) (b : Bool) → Asks phase answer asked → 
 asks_at phase answer asked true asks = asks
 asks_at phase answer asked false asks = asks
 
-module _ (heap : Heap) (state : State) (book : Book) (number : ℕ) (rule : Rule heap state book) (here : number < heap.seats) (place : (seat_at state number).place ≡ places.Polling Asking) where
+module _ (heap : Heap) (state : State) (book : Book) (number : ℕ) (rule : Rule heap state book) (here : number < heap.seats) (point : (seat_at state number).point ≡ points.Polling Asking) where
   abbrev seat : Seat
   seat = seat_at state number
 
@@ -73,22 +73,22 @@ module _ (heap : Heap) (state : State) (book : Book) (number : ℕ) (rule : Rule
   stands = rule.seats_stand number here
 
   rest : IsAtRest seat
-  rest = rw place at (seat_fits rule number here).at_place
+  rest = rw point at (seat_fits rule number here).at_point
 
   asks : IsSilent seat × AnswersThePhase seat.command
-  asks = rw place at (seat_fits rule number here).answer_at_place
+  asks = rw point at (seat_fits rule number here).answer_at_point
 
   stays : seat.left ≡ false
-  stays = in_flight_has_not_left rule number here (λ idle. absurd (cc (place, idle)))
+  stays = in_flight_has_not_left rule number here (λ idle. absurd (cc (point, idle)))
 
   is_phase : found ≡ phase book.history
   is_phase = rule.heap_stands.cycle.word
 
   mine_told : seat.mine ≡ filter (is_of number) book.history
-  mine_told = own_list_is_all_told stands.told.list (rw place at stands.told.list.awaits)
+  mine_told = own_list_is_all_told stands.told.list (rw point at stands.told.list.awaits)
 
   holds : HoldAll heap book.history g number book.made book.owner book.fragments g seat.registers
-  holds i = stands.names.registers i (place_awaits_none seat.place (places.Polling Asking) (target_of seat.command) i place (λ none. none))
+  holds i = stands.names.registers i (point_awaits_none seat.point (points.Polling Asking) (target_of seat.command) i point (λ none. none))
 
   -- the seat has answered the phase: a poll tells it
   poll_tells : found ≡ seat.answered → seat.command ≡ commands.Poll → PollKeeps heap state book number commands.Poll true
@@ -103,7 +103,7 @@ module _ (heap : Heap) (state : State) (book : Book) (number : ℕ) (rule : Rule
       let next = λ (c : Command). with_entries (after_call (with_seen found seat)) (entries.Said number c (replies.Phase found) ∷ []) in
       subst (λ c. IsMachine heap (record state { words = put heap state.words Phase found; seats = slice_set state.seats number (next c) })
       → Keeps heap state (record state { words = put heap state.words Phase found; seats = slice_set state.seats number (next c) }) book book.begun (entries.Said number c (replies.Phase found) ∷ [])) polls
-      (λ machine. keeps_rule_by_local_reply heap state book number Phase (next seat.command) (replies.Phase found) rule here machine (rw place tt) rest mine_told (stands.told.counts.leaves ∙ stays)
+      (λ machine. keeps_rule_by_local_reply heap state book number Phase (next seat.command) (replies.Phase found) rule here machine (rw point tt) rest mine_told (stands.told.counts.leaves ∙ stays)
       (subst IsCommand (sym polls) tt)
       (subst (λ c. IsLocalReply heap book.history g number book.made book.owner book.fragments c (replies.Phase found) seat.registers) (sym polls) local)
       (reply_is_no_leave number number seat.command (replies.Phase found) (λ leaves. absurd (cc (leaves, polls))))
@@ -112,7 +112,7 @@ module _ (heap : Heap) (state : State) (book : Book) (number : ℕ) (rule : Rule
 
   -- and a collect doesn't
   collect_ends : PollKeeps heap state book number commands.Collect true
-  collect_ends = keeps_rule_by_quiet_end heap state book number rule here Phase (seen_phase found seat.looks) (rw place tt) rest asks.0 (rw place (λ same. same)) (λ r awaited. subst (λ x. IsAwaited x (target_of seat.command) r) place awaited) mine_told
+  collect_ends = keeps_rule_by_quiet_end heap state book number rule here Phase (seen_phase found seat.looks) (rw point tt) rest asks.0 (rw point (λ same. same)) (λ r awaited. subst (λ x. IsAwaited x (target_of seat.command) r) point awaited) mine_told
 
   -- it hasn't, so that it is one phase behind
   own_cycle : found ≢ seat.answered
@@ -145,13 +145,13 @@ module _ (heap : Heap) (state : State) (book : Book) (number : ℕ) (rule : Rule
           holding = stands.own.holding;
           stored = stands.own.stored;
           together = stands.own.together;
-          spine = spine_in_hand_away heap state.words state.words book.spine_owner number seat next (no_place_where_none_made seat seat.place (rw place tt)) (λ has. has) stands.own.spine;
+          spine = spine_in_hand_away heap state.words state.words book.spine_owner number seat next (no_place_where_none_made seat seat.point (rw point tt)) (λ has. has) stands.own.spine;
         };
         names = record { registers = λ i awake. holds i; way = tt; address = tt };
         told = record {
           list = record { awaited = []; own = append-nil next.mine ∙ append-nil seat.mine ∙ mine_told; awaits = refl };
           counts = counts_agree_without_entry g book.history number seat next refl refl refl refl stands.told.counts;
-          began = began_without_entry book.history number (book.begun number) seat.place next.place (rw place (λ same. same)) stands.told.began;
+          began = began_without_entry book.history number (book.begun number) seat.point next.point (rw point (λ same. same)) stands.told.began;
           gathers = stands.told.gathers;
           used = tt;
         };
@@ -159,7 +159,7 @@ module _ (heap : Heap) (state : State) (book : Book) (number : ℕ) (rule : Rule
       }
       (λ r below apart other. other)
       (marks_go_on_off_way heap state book rule number here state.words book next (leaves_by_same_sources heap state book rule state.words (same_sources_of_itself heap state.words)) refl refl tt)
-      (space_stands_after_step heap state book number rule here state.words next book (leaves_spines_of_itself heap state.words) (same_weights_where_none_made seat next (rw place tt) tt)
+      (space_stands_after_step heap state book number rule here state.words next book (leaves_spines_of_itself heap state.words) (same_weights_where_none_made seat next (rw point tt) tt)
       (same_grants_recoloured heap book book.colour book.begun) (λ f dark. dark))
       (book_goes_on_with_history heap state book book.history book.begun)) machine
 
@@ -176,21 +176,21 @@ module _ (heap : Heap) (state : State) (book : Book) (number : ℕ) (rule : Rule
       ]
 
 -- a poll's load keeps the rule
-pub poll_keeps : StepKeeps (places.Polling Asking) (λ heap. poll_move)
-poll_keeps heap state book number rule here place = poll_kept heap state book number rule here place
+pub poll_keeps : StepKeeps (points.Polling Asking) (λ heap. poll_move)
+poll_keeps heap state book number rule here point = poll_kept heap state book number rule here point
 
 -- all that is asked of it
-pub step_kind_of_poll_asking : StepKind (places.Polling Asking)
+pub step_kind_of_poll_asking : StepKind (points.Polling Asking)
 step_kind_of_poll_asking = record {
   keeps = λ heap state book number rule here looks. poll_keeps heap state book number rule here;
-  shows = λ heap state number. shows_poll number (seat_at state number) (places.Polling Asking) ((at heap state.words Phase) == (seat_at state number).answered) (at heap state.words Phase);
+  shows = λ heap state number. shows_poll number (seat_at state number) (points.Polling Asking) ((at heap state.words Phase) == (seat_at state number).answered) (at heap state.words Phase);
   looks = record {
-    follows = λ heap state number seat compares placed. looks_follow_poll heap state number seat ((at heap state.words Phase) == seat.answered) (at heap state.words Phase) refl;
-    goes = λ heap state book rule number placed. looks_go_at_first_seen heap state book rule number _ _ (λ other p comparing. cc (placed, comparing))
-        (looks_go_at_polling heap number book.history (with_seen (at heap state.words Phase) (seat_at state number)) ((at heap state.words Phase) == (seat_at state number).answered) (at heap state.words Phase) _ (λ named. cc (placed, named)));
-    comes = λ heap number seat found placed. comes_from_usual _ (after_phase_load (with_seen found seat) found).place (phase_load_is_usual (with_seen found seat) found);
+    follows = λ heap state number seat compares point_is. looks_follow_poll heap state number seat ((at heap state.words Phase) == seat.answered) (at heap state.words Phase) refl;
+    goes = λ heap state book rule number point_is. looks_go_at_first_seen heap state book rule number _ _ (λ other p comparing. cc (point_is, comparing))
+        (looks_go_at_polling heap number book.history (with_seen (at heap state.words Phase) (seat_at state number)) ((at heap state.words Phase) == (seat_at state number).answered) (at heap state.words Phase) _ (λ named. cc (point_is, named)));
+    comes = λ heap number seat found point_is. comes_from_usual _ (after_phase_load (with_seen found seat) found).point (phase_load_is_usual (with_seen found seat) found);
   };
-  words = on_words_of_plain_step (places.Polling Asking) (λ heap. poll_move) (λ heap number seat. refl) (λ heap number seat is. is) (λ heap number seat low. low)
+  words = on_words_of_plain_step (points.Polling Asking) (λ heap. poll_move) (λ heap number seat. refl) (λ heap number seat is. is) (λ heap number seat low. low)
       (λ heap state book rule number here. only_loads (λ word. refl));
-  found = λ heap state book number stands here placed. tells_at_poll heap state book number stands here (λ idle. cc (placed, idle));
+  found = λ heap state book number stands here point_is. tells_at_poll heap state book number stands here (λ idle. cc (point_is, idle));
 }

@@ -3,11 +3,11 @@ use Rattle.std.proofs.Common.{slice_set, ℕ, ◌<◌, [], length, drop, refl, �
 use Rattle.core_rule.proofs.Terms.{Command, Heap, spine_need_of, graph_of, phase, last_answer, has_left, IsRecordCall, target_of, IsAtRest, State, seat_at, MayBegin, gather_next}
 use Rattle.core_rule.proofs.Terms.{Seat, IsMachine, Book, Rule, IsReached}
 use Rattle.heap_model.specs.declared.command.Command.TheVariants as commands
-use Rattle.core_machine.specs.declared.place.Place.TheVariants as places
+use Rattle.core_machine.specs.declared.point.Point.TheVariants as points
 use Rattle.core_machine.proofs.seat_lemmas.Fitting.{record_makes_object}
 use Rattle.core_rule.proofs.marking.Marks.{roots_hold_off_way}
 use Rattle.core_rule.proofs.steps.Assemble.{Keeps, keeps_rule_after_begin}
-use Rattle.core_rule.proofs.entries.AtRest.{seat_fits, place_awaits_none}
+use Rattle.core_rule.proofs.entries.AtRest.{seat_fits, point_awaits_none}
 use Rattle.core_rule.proofs.entries.Begins.{begins, began_at_begin}
 use Rattle.core_rule.proofs.hand.ClaimOrder.{together_after_going_on}
 use Rattle.core_rule.proofs.hand.EmptyHand.{together_where_empty, is_stored_where_none, gathers_right_unbegun}
@@ -31,8 +31,8 @@ begin_keeps heap state book number command rule here may a_record machine =
     let seat : Seat = record (seat_at state number) { command = command } in
     let next : Seat = gather_next heap seat in
     let stands = rule.seats_stand number here in
-    let rest : IsAtRest (seat_at state number) = rw may.idle at (seat_fits rule number here).at_place in
-    let before : MakesNone (seat_at state number).place = rw may.idle tt in
+    let rest : IsAtRest (seat_at state number) = rw may.idle at (seat_fits rule number here).at_point in
+    let before : MakesNone (seat_at state number).point = rw may.idle tt in
     let unplaced : IsUnplaced 0 next = subst (λ n. IsUnplaced n next) (needs_none command a_record) (unplaced_goes_on heap seat (record_makes_object command a_record)) in
     let stays = stays_making_goes_on heap seat in
     let same = stays.same in
@@ -41,28 +41,28 @@ begin_keeps heap state book number command rule here may a_record machine =
         holding = holding_goes_on heap book.owner number seat rest.no_body stands.own.holding;
         stored = is_stored_where_none heap state.words number next (same.stored ∙ rest.none_stored);
         spine = spine_in_hand_away heap state.words state.words book.spine_owner number (seat_at state number) next
-            (no_place_where_none_made (seat_at state number) (seat_at state number).place before) unplaced.no_place stands.own.spine;
+            (no_place_where_none_made (seat_at state number) (seat_at state number).point before) unplaced.no_place stands.own.spine;
         together = together_after_going_on heap seat rest.no_body (seat_fits rule number here).own.cursor_within (seat_fits rule number here).own.reserve_of_cursor
             (together_where_empty heap seat.cursor seat.tried seat.hand seat.body rest.empty_hand rest.no_body);
       };
       names = record {
-        registers = rw same.registers (λ r fresh. stands.names.registers r (place_awaits_none (seat_at state number).place places.Idle (target_of (seat_at state number).command) r may.idle (λ none. none)));
-        way = rw stays.placed tt;
-        address = rw stays.placed tt;
+        registers = rw same.registers (λ r fresh. stands.names.registers r (point_awaits_none (seat_at state number).point points.Idle (target_of (seat_at state number).command) r may.idle (λ none. none)));
+        way = rw stays.point_is tt;
+        address = rw stays.point_is tt;
       };
       told = record {
-        list = own_list_of_making (graph_of heap book.history) book.history book.made book.owner book.fragments number next stays.making stays.placed
+        list = own_list_of_making (graph_of heap book.history) book.history book.made book.owner book.fragments number next stays.making stays.point_is
             (same.mine ∙ idle_list_is_all_told (graph_of heap book.history) book.history book.made book.owner book.fragments number (seat_at state number) may.idle stands.told.list);
         counts = counts_agree_without_entry (graph_of heap book.history) book.history number (seat_at state number) next same.made same.sets same.left (held_length_goes_on heap seat rest.no_body) stands.told.counts;
-        began = began_at_begin heap state.words book number next.place;
+        began = began_at_begin heap state.words book number next.point;
         used = unplaced.none_used heap book.history number;
         gathers = gathers_right_goes_on heap book.owner number (drop (begins number (length book.history) book.begun number) book.history) seat rest.none_given
             (gathers_right_unbegun heap book.owner number (drop (begins number (length book.history) book.begun number) book.history) seat.cursor seat.tried seat.given rest.none_tried rest.none_given);
       };
       cycle = seat_in_cycle_goes_on heap state.words state.words book.owner book.owner book.colour (phase book.history) (last_answer number book.history) (has_left number book.history) number (seat_at state number) next
-          record { answered = same.answered; left = same.left; asked = same.asked } (rw stays.placed tt) refl (λ f borne. borne) stands.cycle;
+          record { answered = same.answered; left = same.left; asked = same.asked } (rw stays.point_is tt) refl (λ f borne. borne) stands.cycle;
     }
     same.answered
-    (same_weights_where_unplaced 0 (seat_at state number) next (none_granted (seat_at state number) (seat_at state number).place before) (λ half. none_placed half (seat_at state number) (seat_at state number).place before)
-    (none_refused (seat_at state number) (seat_at state number).place before) unplaced)
-    (λ marks. roots_hold_off_way (IsReached heap state.words book.owner book.colour) (seat_at state number) next same.registers (rw stays.placed tt))
+    (same_weights_where_unplaced 0 (seat_at state number) next (none_granted (seat_at state number) (seat_at state number).point before) (λ half. none_placed half (seat_at state number) (seat_at state number).point before)
+    (none_refused (seat_at state number) (seat_at state number).point before) unplaced)
+    (λ marks. roots_hold_off_way (IsReached heap state.words book.owner book.colour) (seat_at state number) next same.registers (rw stays.point_is tt))

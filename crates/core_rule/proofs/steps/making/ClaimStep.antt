@@ -6,11 +6,11 @@ use Rattle.std.proofs.lemmas.List.{length-append}
 use Rattle.core_rule.proofs.Terms.{taken_at, Entry, Heap, graph_of, graph_seat, phase, last_answer, has_left, Graph, Node, Control, Gathering, target_of, SeatIsGathering, clear_in}
 use Rattle.core_rule.proofs.Terms.{tally, at, put, table_length, seat_at, next_group_of, after_claim, claim_move, takes_some, all_taken, Seat, spine_need, Bits, AreUsed}
 use Rattle.core_rule.proofs.Terms.{GathersRight, fragments_in_hand, node_at, Owner, Free, Taken, Borne, free_bit, born_bit, owner_after}
-use Rattle.core_machine.specs.declared.place.Place.TheVariants as places
+use Rattle.core_machine.specs.declared.point.Point.TheVariants as points
 use Rattle.core_machine.specs.Moves.{seat_after}
 use Rattle.core_machine.proofs.table_lemmas.Owned.{clear_is_of_group}
 use Rattle.core_machine.proofs.seat_lemmas.Fitting.{next_group_within_heap}
-use Rattle.core_rule.specs.owners.Owners.{Kept as KeepsPart}
+use Rattle.core_rule.specs.owners.Owners.{Kept as KeptFragment}
 use Rattle.core_rule.specs.hand.Together.{AreTogether}
 use Rattle.core_rule.proofs.cycle.FieldFrames.{watched_is_born}
 use Rattle.core_rule.proofs.book.BookGoing.{book_goes_on_with_owners}
@@ -62,12 +62,12 @@ module _ (heap : Heap) (words : List ℕ) (owner : ℕ → Owner) (g : ℕ) (who
       omega (arith, less, free)
 
 -- what is kept isn't free
-no_board_free : (o : Owner) → o ≡ KeepsPart 0 0 → o ≡ Free → ⊥
-no_board_free o kept free = let both : KeepsPart 0 0 ≡ Free = sym kept ∙ free in absurd (cc)
+no_board_free : (o : Owner) → o ≡ KeptFragment 0 0 → o ≡ Free → ⊥
+no_board_free o kept free = let both : KeptFragment 0 0 ≡ Free = sym kept ∙ free in absurd (cc)
 
 -- what was free is no object's
-free_kept : (owner : ℕ → Owner) (f i k : ℕ) → owner f ≡ Free → owner f ≢ KeepsPart i k
-free_kept owner f i k free kept = let both : Free ≡ KeepsPart i k = sym free ∙ kept in absurd (cc)
+free_kept : (owner : ℕ → Owner) (f i k : ℕ) → owner f ≡ Free → owner f ≢ KeptFragment i k
+free_kept owner f i k free kept = let both : Free ≡ KeptFragment i k = sym free ∙ kept in absurd (cc)
 
 more_in_hand : (reserve hand body fs : List ℕ) → body ≡ [] → length reserve + length (fragments_in_hand (hand ++ fs) body) ≡ length reserve + length (fragments_in_hand hand body) + length fs
 more_in_hand reserve hand body fs none = rw (in_hand_is_hand (hand ++ fs) body none, in_hand_is_hand hand body none, length-append hand fs) (omega arith)
@@ -76,8 +76,8 @@ holds_bears_none : {number r : ℕ} → Taken number ≢ Borne r
 holds_bears_none e = cc
 
 -- a claim keeps the rule
-pub claim_keeps : StepKeeps (places.Making Gathering) claim_move
-claim_keeps heap state book number rule here place machine =
+pub claim_keeps : StepKeeps (points.Making Gathering) claim_move
+claim_keeps heap state book number rule here point machine =
     let seat : Seat = seat_at state number in
     let stands = rule.seats_stand number here in
     let heap_stands = rule.heap_stands in
@@ -92,7 +92,7 @@ claim_keeps heap state book number rule here place machine =
     let g_of : Graph = graph_of heap book.history in
     let mid : Seat = record seat { hand = seat.hand ++ fs; tried = seat.tried + 1 } in
     let next : Seat = seat_after (claim_move heap number seat) found in
-    let gathers : SeatIsGathering heap seat = rw place at (seat_fits rule number here).at_place in
+    let gathers : SeatIsGathering heap seat = rw point at (seat_fits rule number here).at_point in
     let below = next_group_within_heap heap seat (seat_fits rule number here).own.cursor_within in
     let once : (f : ℕ) → tally f fs ≤ 1 = λ f. clear_has_each_once g found f in
     let inside = clear_within heap state.words book.owner g rule.machine.table below heap_stands.control_words in
@@ -103,16 +103,16 @@ claim_keeps heap state book number rule here place machine =
     let unplaced = unplaced_goes_on heap mid gathers.makes.an_object in
     let stays = stays_making_goes_on heap mid in
     let same = stays.same in
-    let present = making_seat_has_not_left heap state book number Gathering rule here place in
-    let list = making_list_is_all_told g_of book.history book.made book.owner book.fragments number seat Gathering place stands.told.list in
-    let tells = claim_is_told heap state book number fs rule here (making_is_not_answered Gathering seat.place place) present gathers.none_given once inside free
+    let present = making_seat_has_not_left heap state book number Gathering rule here point in
+    let list = making_list_is_all_told g_of book.history book.made book.owner book.fragments number seat Gathering point stands.told.list in
+    let tells = claim_is_told heap state book number fs rule here (making_is_not_answered Gathering seat.point point) present gathers.none_given once inside free
     (none_free heap state.words book.owner g rule.machine.table below heap_stands.control_words number book.history heap_stands.used) in
     let kept_on : KeptStays g_of (graph_of heap history) book.made book.made book.owner owner book.fragments book.fragments = rw tells.graph (kept_stays_with_owners g_of book.made book.owner owner book.fragments kept) in
     keeps_rule_after_step heap state book number words next (record book { history = history; owner = owner }) added
     rule here machine refl tells.log
     record {
       control_words = bits_after_claim heap state.words book.owner g rule.machine.table below heap_stands.control_words number;
-      owners = owners_stand_after_handing heap.seats book.owner heap_stands.owners (Taken number) fs here (λ there. no_board_free (book.owner 0) (board_is_kept heap state book number rule here present (making_awaits_none Gathering seat.place (target_of seat.command) 0 place)) (free 0 there));
+      owners = owners_stand_after_handing heap.seats book.owner heap_stands.owners (Taken number) fs here (λ there. no_board_free (book.owner 0) (board_is_kept heap state book number rule here present (making_awaits_none Gathering seat.point (target_of seat.command) 0 point)) (free 0 there));
       ids = rw tells.graph heap_stands.ids;
       objects = rw tells.graph (objects_with_same_kept book.owner owner kept book.made book.fragments book.spines heap words g_of
           (objects_after_control heap state.words g_of book.made book.owner book.fragments book.spines g word below heap_stands.objects));
@@ -129,29 +129,29 @@ claim_keeps heap state book number rule here place machine =
         holding = holding_goes_on heap owner number mid gathers.no_body
             (holding_after_claim book.owner number seat.reserve seat.hand seat.body stands.own.holding fs once free gathers.no_body);
         stored = is_stored_where_none heap words number next (same.stored ∙ gathers.none_stored);
-        spine = spine_in_hand_away heap state.words words book.spine_owner number seat next (λ has. rw place at has) unplaced.no_place stands.own.spine;
+        spine = spine_in_hand_away heap state.words words book.spine_owner number seat next (λ has. rw point at has) unplaced.no_place stands.own.spine;
         together = together_after_going_on heap mid gathers.no_body (seat_fits rule number here).own.cursor_within (seat_fits rule number here).own.reserve_of_cursor
             (subst (λ b. AreTogether heap seat.cursor (seat.tried + 1) (seat.hand ++ fs) b) (sym gathers.no_body)
             (together_after_claim heap seat.cursor seat.tried seat.hand fs (seat_fits rule number here).own.cursor_within gathers.groups_left (clear_is_of_group g found)
             (subst (λ b. AreTogether heap seat.cursor seat.tried seat.hand b) gathers.no_body stands.own.together)));
       };
       names = record {
-        registers = rw (tells.graph, same.registers) (λ r fresh. registers_stay_with_owners book.owner owner kept book.made book.fragments g_of number seat.registers seat.place (target_of seat.command) stands.names.registers r (making_awaits_none Gathering seat.place (target_of seat.command) r place));
-        way = rw stays.placed tt;
-        address = rw stays.placed tt;
+        registers = rw (tells.graph, same.registers) (λ r fresh. registers_stay_with_owners book.owner owner kept book.made book.fragments g_of number seat.registers seat.point (target_of seat.command) stands.names.registers r (making_awaits_none Gathering seat.point (target_of seat.command) r point));
+        way = rw stays.point_is tt;
+        address = rw stays.point_is tt;
       };
       told = record {
-        list = own_list_of_making (graph_of heap history) history book.made owner book.fragments number next stays.making stays.placed (ap (λ m. m ++ added) same.mine ∙ tells.own seat.mine list);
+        list = own_list_of_making (graph_of heap history) history book.made owner book.fragments number next stays.making stays.point_is (ap (λ m. m ++ added) same.mine ∙ tells.own seat.mine list);
         counts = rw tells.graph (tells.counts next same.made same.sets same.left
             (held_length_goes_on heap mid gathers.no_body ∙ more_in_hand seat.reserve seat.hand seat.body fs gathers.no_body));
-        began = tells.began next.place;
+        began = tells.began next.point;
         used = unplaced.none_used heap history number;
         gathers = gathers_right_goes_on heap owner number (drop (book.begun number) history) mid gathers.none_given
             (subst (λ n. GathersRight heap owner number (drop (book.begun number) history) seat.cursor (seat.tried + 1) n) (sym gathers.none_given) tells.gathers);
       };
       cycle = tells.cycles words owner book.colour number next
           (seat_in_cycle_goes_on heap state.words words book.owner owner book.colour (phase book.history) (last_answer number book.history) (has_left number book.history) number seat next
-          record { answered = same.answered; left = same.left; asked = same.asked } (rw stays.placed tt)
+          record { answered = same.answered; left = same.left; asked = same.asked } (rw stays.point_is tt)
           (answer_same_after_control heap state.words word g number (omega (arith, here, rule.machine.limits.seats_fit)))
           (λ f. was_borne_before (Taken number) book.owner fs number f holds_bears_none) stands.cycle);
     }
@@ -172,26 +172,26 @@ claim_keeps heap state book number rule here place machine =
           (omega (arith, under, rule.machine.limits.seats_fit)) (λ f marked. marked) (λ f borne. (was_borne_before (Taken number) book.owner fs r f holds_bears_none borne, refl)) (watched_is_born heap state book rule r under) other.cycle);
     } other)
     (marks_go_on_off_way heap state book rule number here words (record book { history = history; owner = owner }) next
-    (leaves_marking_when_handed heap state book rule g word below (Taken number) fs (λ f there. ap born_bit (free f there)) (λ i k e. cc) refl) same.answered same.registers (rw stays.placed tt))
+    (leaves_marking_when_handed heap state book rule g word below (Taken number) fs (λ f there. ap born_bit (free f there)) (λ i k e. cc) refl) same.answered same.registers (rw stays.point_is tt))
     (space_stands_after_step heap state book number rule here words next (record book { history = history; owner = owner }) leaves
-    (same_weights_where_unplaced (spine_need mid) seat next (rw place refl) (λ half. rw place refl) (rw place refl)
+    (same_weights_where_unplaced (spine_need mid) seat next (rw point refl) (λ half. rw point refl) (rw point refl)
     record { granted = unplaced.granted; placed = unplaced.placed; refused = unplaced.refused; no_place = unplaced.no_place; none_used = unplaced.none_used })
     (same_grants_with_owners heap book history owner tells.spines kept (same_dead_after_handing (Taken number) book.owner fs (λ i k e. cc) (λ f i k there is. absurd (cc (free f there, is)))) (rw tells.graph (same_shape_of_itself nodes))) (λ f dark. dark))
     (book_goes_on_with_owners heap state book history book.begun owner (owners_go_on_by_claim (length book.made) book.owner fs number free))
 
 -- all that is asked of it
-pub step_kind_of_gathering : StepKind (places.Making Gathering)
+pub step_kind_of_gathering : StepKind (points.Making Gathering)
 step_kind_of_gathering = record {
   keeps = λ heap state book number rule here looks. claim_keeps heap state book number rule here;
-  shows = λ heap state number. shows_claim number (seat_at state number) (places.Making Gathering) _;
-  looks = on_looks_of_way (places.Making Gathering) claim_move (λ heap number seat. refl) record {
+  shows = λ heap state number. shows_claim number (seat_at state number) (points.Making Gathering) _;
+  looks = on_looks_of_way (points.Making Gathering) claim_move (λ heap number seat. refl) record {
     unnamed = λ e. cc e;
     blind = λ heap number seat. tt;
     mute = λ heap number seat words found. claim_has_no_replies number _;
-    stays = λ heap number seat found placed. stays_found_after_claim heap seat found;
-    comes = λ heap number seat found. comes_from_usual _ (after_claim heap seat found).place (claim_is_usual heap seat found);
+    stays = λ heap number seat found point_is. stays_found_after_claim heap seat found;
+    comes = λ heap number seat found. comes_from_usual _ (after_claim heap seat found).point (claim_is_usual heap seat found);
   };
-  words = on_words_of_plain_step (places.Making Gathering) claim_move (λ heap number seat. refl) (λ heap number seat is. is) (λ heap number seat low. low)
+  words = on_words_of_plain_step (points.Making Gathering) claim_move (λ heap number seat. refl) (λ heap number seat is. is) (λ heap number seat low. low)
       (λ heap state book rule number here. spares _ refl (λ word i above below. born_bits_stay word _ (λ j small. claim_keeps_born_bits word j small) i above below));
-  found = λ heap state book number stands here placed. tt;
+  found = λ heap state book number stands here point_is. tt;
 }

@@ -7,7 +7,7 @@ use Rattle.core_rule.proofs.Terms.{spot_in, Heap, graph_of, phase, last_answer, 
 use Rattle.core_rule.proofs.Terms.{target_of, IsAtRest, MakesNext, gather_next, Seat, spine_need, with_entries, at, Book, BudgetsStand, UsedStands, GathersRight, Holding}
 use Rattle.core_rule.proofs.Terms.{fragments_in_hand, Rule, SeatStands, HasPlace, next_spine}
 use Rattle.heap_words.specs.declared.spot.Spot.{Spot}
-use Rattle.core_machine.specs.declared.place.Place.TheVariants as places
+use Rattle.core_machine.specs.declared.point.Point.TheVariants as points
 use Rattle.core_machine.proofs.table_lemmas.Addresses.{at-put_same}
 use Rattle.core_rule.specs.hand.Together.{AreTogether}
 use Rattle.core_rule.proofs.spines.NoPlaces.{same_range_away}
@@ -30,7 +30,7 @@ use Rattle.core_rule.proofs.frames.BudgetWritten.{budget_words, budget_words_lea
 use Rattle.core_rule.proofs.steps.Assemble.{Keeps, keeps_rule_after_step, StepKeeps, seat_fits}
 use Rattle.core_rule.proofs.steps.StepKinds.{StepKind, beside, comes_from_grant, stays_found_after_budget, step_kind_of_way, on_words_of_plain_step}
 
-module _ (heap : Heap) (state : State) (book : Book) (number : ℕ) (rule : Rule heap state book) (here : number < heap.seats) (place : (seat_at state number).place ≡ places.Making Granting) where
+module _ (heap : Heap) (state : State) (book : Book) (number : ℕ) (rule : Rule heap state book) (here : number < heap.seats) (point : (seat_at state number).point ≡ points.Making Granting) where
   abbrev seat : Seat
   seat = seat_at state number
 
@@ -50,11 +50,11 @@ module _ (heap : Heap) (state : State) (book : Book) (number : ℕ) (rule : Rule
   stands = rule.seats_stand number here
 
   fits : IsAtRest seat × MakesNext seat.command seat.made × IsArrayCall seat.command
-  fits = rw place at (seat_fits rule number here).at_place
+  fits = rw point at (seat_fits rule number here).at_point
 
   -- nothing is granted to the seat yet
   nothing : HasWeights (next_spine heap state.words).half seat 0 0 0
-  nothing = record { given_is = rw place refl; placed_is = rw place refl; refused_is = rw place refl }
+  nothing = record { given_is = rw point refl; placed_is = rw point refl; refused_is = rw point refl }
 
   -- what it asks for is added to the budget
   grown : at heap words Budget ≡ found + needs
@@ -68,7 +68,7 @@ module _ (heap : Heap) (state : State) (book : Book) (number : ℕ) (rule : Rule
   goes : (next : Seat) → StaysMaking seat next → Holding book.owner number next.reserve next.hand next.body → AreTogether heap next.cursor next.tried next.hand next.body
       → length next.reserve + length (fragments_in_hand next.hand next.body) ≡ length seat.reserve + length (fragments_in_hand seat.hand seat.body)
       → GathersRight heap book.owner number (drop (book.begun number) book.history) next.cursor next.tried next.given
-      → ¬ HasPlace next next.place → UsedStands heap book.history number next next.place
+      → ¬ HasPlace next next.point → UsedStands heap book.history number next next.point
       → BudgetsStand heap (record state { words = words; seats = slice_set state.seats number (with_entries next []) }) book
       → IsMachine heap (record state { words = words; seats = slice_set state.seats number (with_entries next []) })
       → Keeps heap state (record state { words = words; seats = slice_set state.seats number (with_entries next []) }) book book.begun []
@@ -83,26 +83,26 @@ module _ (heap : Heap) (state : State) (book : Book) (number : ℕ) (rule : Rule
           holding = holding;
           stored = is_stored_where_none heap words number new (same.stored ∙ fits.0.none_stored);
           together = together;
-          spine = spine_in_hand_away heap state.words words book.spine_owner number seat new (λ has. rw place at has) no_place stands.own.spine;
+          spine = spine_in_hand_away heap state.words words book.spine_owner number seat new (λ has. rw point at has) no_place stands.own.spine;
         };
         names = record {
-          registers = rw same.registers (λ r fresh. stands.names.registers r (making_awaits_none Granting seat.place (target_of seat.command) r place));
-          way = rw stays.placed tt;
-          address = rw stays.placed tt;
+          registers = rw same.registers (λ r fresh. stands.names.registers r (making_awaits_none Granting seat.point (target_of seat.command) r point));
+          way = rw stays.point_is tt;
+          address = rw stays.point_is tt;
         };
         told = record {
-          list = own_list_of_making g book.history book.made book.owner book.fragments number new stays.making stays.placed
-              (append-nil next.mine ∙ same.mine ∙ making_list_is_all_told g book.history book.made book.owner book.fragments number seat Granting place stands.told.list);
+          list = own_list_of_making g book.history book.made book.owner book.fragments number new stays.making stays.point_is
+              (append-nil next.mine ∙ same.mine ∙ making_list_is_all_told g book.history book.made book.owner book.fragments number seat Granting point stands.told.list);
           counts = counts_agree_without_entry g book.history number seat new same.made same.sets same.left as_many stands.told.counts;
-          began = began_without_entry book.history number (book.begun number) seat.place next.place (making_is_not_answered Granting seat.place place) stands.told.began;
+          began = began_without_entry book.history number (book.begun number) seat.point next.point (making_is_not_answered Granting seat.point point) stands.told.began;
           gathers = gathers;
           used = used;
         };
         cycle = seat_in_cycle_goes_on heap words words book.owner book.owner book.colour (phase book.history) (last_answer number book.history) (has_left number book.history) number seat new
-            record { answered = same.answered; left = same.left; asked = same.asked } (rw stays.placed tt) refl (λ f borne. borne) after.cycle;
+            record { answered = same.answered; left = same.left; asked = same.asked } (rw stays.point_is tt) refl (λ f borne. borne) after.cycle;
       }
       (λ r below apart other. seat_stands_after_budget heap state book rule ((found + needs) % 2 ^ 64) r below)
-      (marks_go_on_off_way heap state book rule number here words book new (leaves_by_same_sources heap state book rule words (same_sources_after_budget heap state book rule ((found + needs) % 2 ^ 64))) same.answered same.registers (rw stays.placed tt))
+      (marks_go_on_off_way heap state book rule number here words book new (leaves_by_same_sources heap state book rule words (same_sources_after_budget heap state book rule ((found + needs) % 2 ^ 64))) same.answered same.registers (rw stays.point_is tt))
       record {
         budgets = budgets;
         halves = halves_stand_after_step heap state book number words new book here rule.machine.seated (budget_words_leave_places heap state book rule ((found + needs) % 2 ^ 64)) (same_range_away seat new no_place)
@@ -111,15 +111,15 @@ module _ (heap : Heap) (state : State) (book : Book) (number : ℕ) (rule : Rule
       (book_goes_on_with_history heap state book book.history book.begun)
 
   -- they were too many
-  refused : heap.spine < found + needs → IsMachine heap (record state { words = words; seats = slice_set state.seats number (with_entries (record seat { used = found; place = places.Making Withdrawing }) []) })
-      → Keeps heap state (record state { words = words; seats = slice_set state.seats number (with_entries (record seat { used = found; place = places.Making Withdrawing }) []) }) book book.begun []
+  refused : heap.spine < found + needs → IsMachine heap (record state { words = words; seats = slice_set state.seats number (with_entries (record seat { used = found; point = points.Making Withdrawing }) []) })
+      → Keeps heap state (record state { words = words; seats = slice_set state.seats number (with_entries (record seat { used = found; point = points.Making Withdrawing }) []) }) book book.begun []
   refused many =
-      let next : Seat = record seat { used = found; place = places.Making Withdrawing } in
+      let next : Seat = record seat { used = found; point = points.Making Withdrawing } in
       goes next
       record {
         same = record { registers = refl; stored = refl; mine = refl; made = refl; sets = refl; answered = refl; left = refl; asked = refl };
         making = Withdrawing;
-        placed = refl;
+        point_is = refl;
       }
       stands.own.holding stands.own.together refl stands.told.gathers (λ has. has)
       (finds_spine_by_budget heap state book rule.machine rule.space.budgets number here nothing, omega (arith, budget_word_is_small heap state book rule.machine rule.space.budgets))
@@ -144,8 +144,8 @@ module _ (heap : Heap) (state : State) (book : Book) (number : ℕ) (rule : Rule
       (omega (arith, few, rule.space.budgets.word)) rule.space.budgets)
 
   abbrev Answered : Bool → Type 0
-  Answered many = IsMachine heap (record state { words = words; seats = slice_set state.seats number (with_entries (if many then record seat { used = found; place = places.Making Withdrawing } else gather_next heap seat) []) })
-      → Keeps heap state (record state { words = words; seats = slice_set state.seats number (with_entries (if many then record seat { used = found; place = places.Making Withdrawing } else gather_next heap seat) []) })
+  Answered many = IsMachine heap (record state { words = words; seats = slice_set state.seats number (with_entries (if many then record seat { used = found; point = points.Making Withdrawing } else gather_next heap seat) []) })
+      → Keeps heap state (record state { words = words; seats = slice_set state.seats number (with_entries (if many then record seat { used = found; point = points.Making Withdrawing } else gather_next heap seat) []) })
       book book.begun []
 
   answered : Answered (nat_lt heap.spine (found + needs))
@@ -154,16 +154,16 @@ module _ (heap : Heap) (state : State) (book : Book) (number : ℕ) (rule : Rule
     | inr few ↦ subst Answered (sym few.0) (granted (omega (arith, few.1)))
   ]
 
-pub grant_keeps : StepKeeps (places.Making Granting) grant_move
-grant_keeps heap state book number rule here place = answered heap state book number rule here place
+pub grant_keeps : StepKeeps (points.Making Granting) grant_move
+grant_keeps heap state book number rule here point = answered heap state book number rule here point
 
 -- all that is asked of it
-pub step_kind_of_granting : StepKind (places.Making Granting)
-step_kind_of_granting = step_kind_of_way (places.Making Granting) grant_move (λ heap number seat. refl) (λ e. cc e) (λ heap number seat. tt) (λ heap number seat words found. refl) record {
+pub step_kind_of_granting : StepKind (points.Making Granting)
+step_kind_of_granting = step_kind_of_way (points.Making Granting) grant_move (λ heap number seat. refl) (λ e. cc e) (λ heap number seat. tt) (λ heap number seat words found. refl) record {
   keeps = grant_keeps;
-  stays = λ heap number seat found placed. stays_found_after_budget heap seat found;
+  stays = λ heap number seat found point_is. stays_found_after_budget heap seat found;
   comes = λ heap number seat found. comes_from_grant heap seat found;
-  words = on_words_of_plain_step (places.Making Granting) grant_move (λ heap number seat. refl) (λ heap number seat is. is) (λ heap number seat low. low)
+  words = on_words_of_plain_step (points.Making Granting) grant_move (λ heap number seat. refl) (λ heap number seat is. is) (λ heap number seat low. low)
       (λ heap state book rule number here. beside (λ g below e. omega (arith, e, below)));
-  found = λ heap state book number stands here placed. omega (arith, budget_word_is_small heap state book stands.rule.machine stands.rule.space.budgets);
+  found = λ heap state book number stands here point_is. omega (arith, budget_word_is_small heap state book stands.rule.machine stands.rule.space.budgets);
 }

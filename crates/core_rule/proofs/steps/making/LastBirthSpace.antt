@@ -10,7 +10,7 @@ use Rattle.core_rule.proofs.Terms.{HasPlace, next_spine}
 use Rattle.heap_model.specs.declared.command.Command.TheVariants as commands
 use Rattle.heap_model.specs.account.Sweep.{HasSwung}
 use Rattle.heap_model.proofs.Histories.{total-more}
-use Rattle.core_machine.specs.declared.place.Place.TheVariants as places
+use Rattle.core_machine.specs.declared.point.Point.TheVariants as points
 use Rattle.core_rule.proofs.cycle.BirthCycle.{words_born, born_group_within_heap, born_body_is_some, marked_stays_when_born, spine_words_name_payload}
 use Rattle.core_rule.proofs.entries.AtRest.{seat_fits}
 use Rattle.core_rule.proofs.entries.MadeEntry.{graph_after_made_entry}
@@ -22,7 +22,7 @@ use Rattle.core_rule.proofs.graph.Numbering.{id_stays_by_append, new_id_stands_l
 use Rattle.core_rule.proofs.graph.SameNodes.{SameShape, same_shape_of_equal, same_shape_same_words}
 use Rattle.core_rule.proofs.hand.Bodies.{body_has_each_once, body_is_own}
 use Rattle.core_rule.proofs.hand.MakingSeats.{made_object_is_sized, made_body_is_whole, newborn_word_is_fresh}
-use Rattle.core_rule.proofs.lists.Members.{place_of, element_stands_at_place}
+use Rattle.core_rule.proofs.lists.Members.{position_of, element_stands_at_position}
 use Rattle.core_rule.proofs.marking.LastBirthMarks.{book_born}
 use Rattle.core_rule.proofs.marking.Marks.{each_seat_answered_phase}
 use Rattle.core_rule.proofs.objects.LastBirth.{one_more_by_add, all_words_are_stored}
@@ -46,7 +46,7 @@ array_made : (command : Command) → makes_array command ≡ true → IsArrayCal
 array_made (commands.Array d cells) is = tt
 array_made _ is = absurd (cc)
 
-module _ (heap : Heap) (state : State) (book : Book) (number : ℕ) (rule : Rule heap state book) (here : number < heap.seats) (place : (seat_at state number).place ≡ places.Making Bearing) where
+module _ (heap : Heap) (state : State) (book : Book) (number : ℕ) (rule : Rule heap state book) (here : number < heap.seats) (point : (seat_at state number).point ≡ points.Making Bearing) where
   abbrev seat : Seat
   seat = seat_at state number
 
@@ -77,51 +77,51 @@ module _ (heap : Heap) (state : State) (book : Book) (number : ℕ) (rule : Rule
   stands : SeatStands heap state.words book number seat
   stands = rule.seats_stand number here
 
-  at_place : HasBody seat × (0 < length seat.hand) × (length seat.hand ≤ length seat.body) × (seat.stored ≡ 4 * length seat.body) × SpineIsListed seat.command seat.spine seat.listed
-  at_place = rw place at (seat_fits rule number here).at_place
+  at_point : HasBody seat × (0 < length seat.hand) × (length seat.hand ≤ length seat.body) × (seat.stored ≡ 4 * length seat.body) × SpineIsListed seat.command seat.spine seat.listed
+  at_point = rw point at (seat_fits rule number here).at_point
 
   some : 1 ≤ length seat.body
-  some = born_body_is_some heap state book number rule here place
+  some = born_body_is_some heap state book number rule here point
 
   present : (graph_seat g number).left ≡ false
-  present = making_seat_has_not_left heap state book number Bearing rule here place
+  present = making_seat_has_not_left heap state book number Bearing rule here point
 
   -- the graph has one object more
   pub graph_is_grown : graph_of heap now.history ≡ grown
-  graph_is_grown = graph_after_made_entry heap book.history number seat at_place.0.makes.an_object
+  graph_is_grown = graph_after_made_entry heap book.history number seat at_point.0.makes.an_object
 
   pub one_more_object_born : OneMore g grown id (fresh array cells)
   one_more_object_born = one_more_by_add g number (target_of seat.command) (fresh array cells) seat.made present stands.told.counts.numbered
 
   -- its body was the seat's, and is stored
-  pub own_part : (f : ℕ) → 1 ≤ tally f seat.body → IsOwn number (book.owner f)
-  own_part = body_is_own book.owner number seat.reserve seat.hand seat.body stands.own.holding
+  pub body_was_own : (f : ℕ) → 1 ≤ tally f seat.body → IsOwn number (book.owner f)
+  body_was_own = body_is_own book.owner number seat.reserve seat.hand seat.body stands.own.holding
 
   pub born_body_each_once : (f : ℕ) → tally f seat.body ≤ 1
   born_body_each_once = body_has_each_once book.owner number seat.reserve seat.hand seat.body stands.own.holding some
 
   pub body_was_not_kept : (f i k : ℕ) → 1 ≤ tally f seat.body → book.owner f ≢ Kept i k
-  body_was_not_kept f i k there = own_is_not_kept number i k (book.owner f) (own_part f there)
+  body_was_not_kept f i k there = own_is_not_kept number i k (book.owner f) (body_was_own f there)
 
-  undead_parts : (f i k : ℕ) → 1 ≤ tally f seat.body → book.owner f ≢ Dead i k
-  undead_parts f i k there = own_is_not_dead number i k (book.owner f) (own_part f there)
+  body_was_not_dead : (f i k : ℕ) → 1 ≤ tally f seat.body → book.owner f ≢ Dead i k
+  body_was_not_dead f i k there = own_is_not_dead number i k (book.owner f) (body_was_own f there)
 
   inside : (f : ℕ) → 1 ≤ tally f seat.body → f < 16 * heap.groups
   inside f there =
-      let at_body = element_stands_at_place f seat.body there in
-      subst (λ x. x < 16 * heap.groups) at_body.1 ((seat_fits rule number here).hand.body_within (place_of f seat.body) 0 at_body.0)
+      let at_body = element_stands_at_position f seat.body there in
+      subst (λ x. x < 16 * heap.groups) at_body.1 ((seat_fits rule number here).hand.body_within (position_of f seat.body) 0 at_body.0)
 
   pub born_body_is_new : NewBody heap state.words book.owner id array cells seat.body seat.spine
   born_body_is_new =
-      let makes = at_place.0.makes.an_object in
-      let stored = all_words_are_stored heap state.words seat.body (newborn_word_of number seat) seat.stored at_place.3 stands.own.stored in
+      let makes = at_point.0.makes.an_object in
+      let stored = all_words_are_stored heap state.words seat.body (newborn_word_of number seat) seat.stored at_point.3 stands.own.stored in
       record {
-        sized = made_object_is_sized seat at_place.0;
-        whole = made_body_is_whole seat at_place.0;
+        sized = made_object_is_sized seat at_point.0;
+        whole = made_body_is_whole seat at_point.0;
         once = born_body_each_once;
         unkept = body_was_not_kept;
         newborn = λ k part less within. stored k part less within ∙ newborn_word_is_fresh seat.command makes (next_name number seat) seat.spine seat.body k part;
-        listed = λ j within. spine_words_name_payload heap state book number rule here place j (subst (λ n. j < n) (sym (spine_need_is_fresh_words seat.command makes)) within);
+        listed = λ j within. spine_words_name_payload heap state book number rule here point j (subst (λ n. j < n) (sym (spine_need_is_fresh_words seat.command makes)) within);
       }
 
   pub made_is_one_longer : length now.made ≡ count + 1
@@ -137,10 +137,10 @@ module _ (heap : Heap) (state : State) (book : Book) (number : ℕ) (rule : Rule
 
   -- it has the spine words that its maker asked for
   pub new_spine_words_are_needed : spine_words_of (nodes_in heap now count) ≡ spine_need seat
-  new_spine_words_are_needed = ap spine_words_of fresh_now ∙ fresh_has_words array cells ∙ sym (spine_need_is_fresh_words seat.command at_place.0.makes.an_object)
+  new_spine_words_are_needed = ap spine_words_of fresh_now ∙ fresh_has_words array cells ∙ sym (spine_need_is_fresh_words seat.command at_point.0.makes.an_object)
 
-  has_place : (nodes_in heap now count).array ≡ true → HasPlace seat seat.place
-  has_place is = subst (HasPlace seat) (sym place) (array_made seat.command (sym (ap (λ (o : Node). o.array) fresh_now) ∙ is))
+  has_place : (nodes_in heap now count).array ≡ true → HasPlace seat seat.point
+  has_place is = subst (HasPlace seat) (sym point) (array_made seat.command (sym (ap (λ (o : Node). o.array) fresh_now) ∙ is))
 
   -- what was kept is, as it was
   below_count : (f i k : ℕ) → book.owner f ≡ Kept i k → i < count
@@ -170,7 +170,7 @@ module _ (heap : Heap) (state : State) (book : Book) (number : ℕ) (rule : Rule
     has = has_place;
     swung = has_swung_before_entry book.history entry (λ x e. absurd (cc));
     unswung = λ swung. without_node_is_not_made g id one_more_object_born.none (swung_is_made heap id book.history rule.heap_stands.legal (subst (λ x. HasSwung x book.history) (new_id_stands_last book.made id) swung));
-    marked = marked_stays_when_born heap state book number rule here place;
+    marked = marked_stays_when_born heap state book number rule here point;
   }
 
   abbrev half : ℕ
@@ -201,22 +201,22 @@ module _ (heap : Heap) (state : State) (book : Book) (number : ℕ) (rule : Rule
       record {
         kept = omega (arith, all, new_spine_words_are_needed);
         in_half = omega (arith, here_more, new_in_half);
-        dead = dead_sum_after_birth count book.owner seat.body (words_of_object (nodes_in heap book)) (words_of_object (nodes_in heap now)) words_as undead_parts dead_below heap;
-        counts = sweep_counts_after_birth count book.owner seat.body (words_of_object (nodes_in heap book)) (words_of_object (nodes_in heap now)) words_as undead_parts dead_below state.collector.stage;
+        dead = dead_sum_after_birth count book.owner seat.body (words_of_object (nodes_in heap book)) (words_of_object (nodes_in heap now)) words_as body_was_not_dead dead_below heap;
+        counts = sweep_counts_after_birth count book.owner seat.body (words_of_object (nodes_in heap book)) (words_of_object (nodes_in heap now)) words_as body_was_not_dead dead_below state.collector.stage;
       }
 
   near : IsNear state.collector.phase seat.answered
   near = subst (λ p. IsNear p seat.answered) (sym rule.collector_stands.phase_told) (stands.cycle.answers_told.near (sym stands.told.counts.leaves ∙ present))
 
   -- the spine space stands then
-  pub space_stands_after_birth : (after : Seat) → ¬ HasPlace after after.place → granted_at after after.place ≡ 0 → placed_at half after after.place ≡ 0 → refused_at after after.place ≡ 0
-      → SpaceStands heap (stepped state number (words_born heap state book number rule here place) after) now
+  pub space_stands_after_birth : (after : Seat) → ¬ HasPlace after after.point → granted_at after after.point ≡ 0 → placed_at half after after.point ≡ 0 → refused_at after after.point ≡ 0
+      → SpaceStands heap (stepped state number (words_born heap state book number rule here point) after) now
   space_stands_after_birth after none given placed refused =
-      let words = words_born heap state book number rule here place in
-      let leaves = leaves_spines_after_control heap state.words _ (last_group_of seat.hand) (born_group_within_heap heap state book number rule here place) in
+      let words = words_born heap state book number rule here point in
+      let leaves = leaves_spines_after_control heap state.words _ (last_group_of seat.hand) (born_group_within_heap heap state book number rule here point) in
       record {
         budgets = budgets_stand_after_birth heap state book number here rule.machine.seated words after (spine_need seat) in_half 0
-            record { given_is = rw place refl; placed_is = rw place refl; refused_is = rw place refl } 0 0 0 record { given_is = given; placed_is = placed; refused_is = refused } now refl refl refl
+            record { given_is = rw point refl; placed_is = rw point refl; refused_is = rw point refl } 0 0 0 record { given_is = given; placed_is = placed; refused_is = refused } now refl refl refl
             record { granted = total-more (λ e. e.words) book.history entry; returned = returned_words_stay book.history entry refl; in_cycle = returned_in_cycle_stays book.history entry refl refl }
             keeps_born leaves rule.space.budgets;
         halves = halves_stand_after_birth heap state book now number words after here rule.machine.seated (leaves_places_of_spines heap state.words words leaves) one_born none

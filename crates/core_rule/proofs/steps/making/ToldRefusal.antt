@@ -4,8 +4,8 @@ use Rattle.std.proofs.lemmas.Bool.{eq-eqb}
 use Rattle.core_rule.proofs.Terms.{Entry, Said, Heap, Reply, KeepsSpace, graph_of, effect_of, no_effect, Accepts, graph_seat, phase, last_answer, has_left, Graph, MakesObject}
 use Rattle.core_rule.proofs.Terms.{target_of, IsSilent, State, seat_at, IsMachine, Seat, seat_after_reply, Book, BudgetsStand, fragments_in_hand, Rule, HeapStands, SeatStands}
 use Rattle.core_rule.proofs.Terms.{HasPlace}
-use Rattle.core_machine.specs.declared.place.Making.{Making}
-use Rattle.core_machine.specs.declared.place.Place.TheVariants as places
+use Rattle.core_machine.specs.declared.point.Making.{Making}
+use Rattle.core_machine.specs.declared.point.Point.TheVariants as points
 use Rattle.core_machine.specs.declared.seat.looks.Looks.{Looks}
 use Rattle.core_rule.proofs.spines.OtherWords.{LeavesPlaces}
 use Rattle.core_rule.proofs.spines.NoPlaces.{same_range_away}
@@ -19,7 +19,7 @@ use Rattle.core_rule.proofs.entries.OwnEntries.{own_list_grows, counts_agree_aft
 use Rattle.core_rule.proofs.entries.PhaseEntries.{reply_is_no_leave}
 use Rattle.core_rule.proofs.entries.SeatLists.{making_list_is_all_told, own_list_where_all_told}
 use Rattle.core_rule.proofs.book.BookGoing.{book_goes_on_with_history}
-use Rattle.core_rule.proofs.frames.Replying.{effect_part_is_none, heap_stands_after_reply, same_grants_after_reply, other_seat_stands_after_reply}
+use Rattle.core_rule.proofs.frames.Replying.{effect_summand_is_none, heap_stands_after_reply, same_grants_after_reply, other_seat_stands_after_reply}
 use Rattle.core_rule.proofs.frames.SeatFrames.{with_entry}
 use Rattle.core_rule.proofs.gather.GatherMoves.{gathers_right_untried}
 use Rattle.core_rule.proofs.graph.SameNodes.{SameNodes, same_nodes_of_equal}
@@ -29,7 +29,7 @@ use Rattle.core_rule.proofs.budgets.BudgetFrames.{stepped, SameGrants}
 use Rattle.core_rule.proofs.spines.SpineFrames.{spine_in_hand_away}
 use Rattle.core_rule.proofs.steps.Assemble.{Keeps, keeps_rule_after_step, seat_fits}
 
-module _ (heap : Heap) (state : State) (book : Book) (number : ℕ) (rule : Rule heap state book) (here : number < heap.seats) (making : Making) (place : (seat_at state number).place ≡ places.Making making)
+module _ (heap : Heap) (state : State) (book : Book) (number : ℕ) (rule : Rule heap state book) (here : number < heap.seats) (making : Making) (point : (seat_at state number).point ≡ points.Making making)
     (reply : Reply) (looks : Looks) (makes : MakesObject (seat_at state number).command) (nothing : effect_of (Said number (seat_at state number).command reply) ≡ no_effect)
     (graph : graph_of heap (book.history ++ Said number (seat_at state number).command reply ∷ []) ≡ graph_of heap book.history)
     (words : List ℕ) (heap_stands : HeapStands heap words book) (seats_stand : (r : ℕ) → r < heap.seats → SeatStands heap words book r (seat_at state r))
@@ -66,13 +66,13 @@ module _ (heap : Heap) (state : State) (book : Book) (number : ℕ) (rule : Rule
       other_seat_stands_after_reply heap words book entry nothing nodes r (seat_at state r) (seat_is_not_other number r apart) (ap (λ (x : Graph). graph_seat x r) graph) (seats_stand r below)
 
   -- so the refusal keeps the rule, where its entry may stand, nothing is in the hand and no spine has its place, and the budget stands
-  pub keeps_rule_by_refusal : seat.hand ≡ [] → seat.body ≡ [] → ¬ HasPlace seat seat.place → Accepts before entry → KeepsSpace heap false book.history entry
+  pub keeps_rule_by_refusal : seat.hand ≡ [] → seat.body ≡ [] → ¬ HasPlace seat seat.point → Accepts before entry → KeepsSpace heap false book.history entry
       → LeavesPlaces heap state.words words → BudgetsStand heap (stepped state number words refused) book_refused → IsMachine heap (stepped state number words refused)
       → Keeps heap state (stepped state number words refused) book book.begun (entry ∷ [])
   keeps_rule_by_refusal empty bare no_place accepts keeps places budgets machine =
       let stands = seats_stand number here in
-      let silent : IsSilent seat = rw place at (seat_fits rule number here).answer_at_place in
-      let list = making_list_is_all_told before book.history book.made book.owner book.fragments number seat making place stands.told.list in
+      let silent : IsSilent seat = rw point at (seat_fits rule number here).answer_at_point in
+      let list = making_list_is_all_told before book.history book.made book.owner book.fragments number seat making point stands.told.list in
       let none_left : length (fragments_in_hand seat.hand seat.body) ≡ 0 = rw (bare, empty) refl in
       keeps_rule_after_step heap state book number words refused book_refused (entry ∷ []) rule here machine refl refl
       (heap_stands_after_reply heap words book entry nothing nodes accepts keeps heap_stands)
@@ -83,12 +83,12 @@ module _ (heap : Heap) (state : State) (book : Book) (number : ℕ) (rule : Rule
           together = together_where_empty heap seat.cursor 0 [] [] refl refl;
           spine = spine_in_hand_away heap words words book.spine_owner number seat refused no_place (λ none. none) stands.own.spine;
         };
-        names = record { registers = rw graph (λ r fresh. stands.names.registers r (making_awaits_none making seat.place (target_of seat.command) r place)); way = tt; address = tt };
+        names = record { registers = rw graph (λ r fresh. stands.names.registers r (making_awaits_none making seat.point (target_of seat.command) r point)); way = tt; address = tt };
         told = record {
           list = own_list_where_all_told after book_refused.history book.made book.owner book.fragments number refused refl (own_list_grows number book.history seat.mine entry (eq-eqb number number refl) list);
           counts = rw graph (counts_agree_after_own before before book.history number seat refused stands.told.counts entry (eq-eqb number number refl)
-              stands.told.counts.numbered stands.told.counts.stamped stands.told.counts.leaves (omega (arith, none_left, effect_part_is_none entry (λ e. e.born) nothing refl)));
-          began = began_idle_after_reply book.history entry number (book.begun number) seat.place stands.told.began;
+              stands.told.counts.numbered stands.told.counts.stamped stands.told.counts.leaves (omega (arith, none_left, effect_summand_is_none entry (λ e. e.born) nothing refl)));
+          began = began_idle_after_reply book.history entry number (book.begun number) seat.point stands.told.began;
           gathers = gathers_right_untried heap book.owner number (drop (book.begun number) book_refused.history) seat.cursor;
           used = tt;
         };

@@ -6,7 +6,7 @@ use Rattle.heap_words.specs.declared.spot.Spot.{Spot}
 use Rattle.heap_model.specs.declared.reply.Reply.TheVariants.{SpineFull}
 use Rattle.heap_model.specs.account.Refusals.{FindsSpine}
 use Rattle.heap_model.proofs.Histories.{graph_after-more}
-use Rattle.core_machine.specs.declared.place.Place.TheVariants as places
+use Rattle.core_machine.specs.declared.point.Point.TheVariants as points
 use Rattle.core_machine.specs.Moves.{seat_after}
 use Rattle.core_machine.specs.seat.Looks.{forgotten}
 use Rattle.core_machine.proofs.table_lemmas.Addresses.{at-put_same}
@@ -20,7 +20,7 @@ use Rattle.core_rule.proofs.steps.making.ToldRefusal.{same_grants_after_refusal,
 use Rattle.core_rule.proofs.steps.StepKinds.{StepKind, beside, shows_one, refuses_words, on_looks_of_reply, on_words_of_plain_step}
 use Rattle.heap_model.specs.declared.reply.Reply.TheVariants as replies
 
-module _ (heap : Heap) (state : State) (book : Book) (number : ℕ) (rule : Rule heap state book) (here : number < heap.seats) (place : (seat_at state number).place ≡ places.Making Withdrawing) where
+module _ (heap : Heap) (state : State) (book : Book) (number : ℕ) (rule : Rule heap state book) (here : number < heap.seats) (point : (seat_at state number).point ≡ points.Making Withdrawing) where
   abbrev seat : Seat
   seat = seat_at state number
 
@@ -49,11 +49,11 @@ module _ (heap : Heap) (state : State) (book : Book) (number : ℕ) (rule : Rule
   stands = rule.seats_stand number here
 
   fits : SeatIsWithdrawing heap seat
-  fits = rw place at (seat_fits rule number here).at_place
+  fits = rw point at (seat_fits rule number here).at_point
 
   -- what it asked for was refused, and nothing is once it is taken back
   asked : HasWeights (next_spine heap state.words).half seat 0 0 needs
-  asked = record { given_is = rw place refl; placed_is = rw place refl; refused_is = rw place refl }
+  asked = record { given_is = rw point refl; placed_is = rw point refl; refused_is = rw point refl }
 
   nothing : HasWeights (next_spine heap state.words).half new 0 0 0
   nothing = record { given_is = refl; placed_is = refl; refused_is = refl }
@@ -72,10 +72,10 @@ module _ (heap : Heap) (state : State) (book : Book) (number : ℕ) (rule : Rule
 
   -- the refusal shows what was found
   finds : FindsSpine heap false book.history number seat.used
-  finds = (subst (UsedStands heap book.history number seat) place stands.told.used).0
+  finds = (subst (UsedStands heap book.history number seat) point stands.told.used).0
 
   shown : seat.used % 2 ^ 32 ≡ seat.used
-  shown = omega (arith, (subst (UsedStands heap book.history number seat) place stands.told.used).1)
+  shown = omega (arith, (subst (UsedStands heap book.history number seat) point stands.told.used).1)
 
   own : length seat.reserve + spent_of number book.history ≡ taken_of number book.history
   own = bare_seat_holds_reserve seat.reserve seat.hand seat.body (spent_of number book.history) (taken_of number book.history) fits.rests.empty_hand fits.rests.no_body stands.told.counts.unborn
@@ -84,7 +84,7 @@ module _ (heap : Heap) (state : State) (book : Book) (number : ℕ) (rule : Rule
   graph = graph_after-more (opening heap) book.history entry ∙ graph_same_after_spine_full seat.command fits.an_array g number needs (seat.used % 2 ^ 32)
 
   accepts : Accepts g entry
-  accepts = accepts_spine_full seat.command fits.an_array g number needs (seat.used % 2 ^ 32) fits.makes.in_range (making_seat_has_not_left heap state book number Withdrawing rule here place)
+  accepts = accepts_spine_full seat.command fits.an_array g number needs (seat.used % 2 ^ 32) fits.makes.in_range (making_seat_has_not_left heap state book number Withdrawing rule here point)
 
   keeps : KeepsSpace heap false book.history entry
   keeps = keeps_space_of_spine_full seat.command fits.an_array heap false book.history number (seat.used % 2 ^ 32)
@@ -93,25 +93,25 @@ module _ (heap : Heap) (state : State) (book : Book) (number : ℕ) (rule : Rule
   -- so they are taken back, and the refusal is told
   withdraws : MoveKeeps heap state book number (withdraw_move number seat)
   withdraws =
-      keeps_rule_by_refusal heap state book number rule here Withdrawing place (SpineFull needs (seat.used % 2 ^ 32)) (forgotten seat.looks) fits.makes.an_object refl graph words
+      keeps_rule_by_refusal heap state book number rule here Withdrawing point (SpineFull needs (seat.used % 2 ^ 32)) (forgotten seat.looks) fits.makes.an_object refl graph words
       (heap_stands_after_budget heap state book rule word) (seat_stands_after_budget heap state book rule word) (same_sources_after_budget heap state book rule word)
-      fits.rests.empty_hand fits.rests.no_body (λ has. rw place at has) accepts keeps (budget_words_leave_places heap state book rule word)
+      fits.rests.empty_hand fits.rests.no_body (λ has. rw point at has) accepts keeps (budget_words_leave_places heap state book rule word)
       (budgets_stand_after_change heap state book number here rule.machine.seated words new 0 0 needs asked 0 0 0 nothing later
-      (same_grants_after_refusal heap state book number rule here Withdrawing place (SpineFull needs (seat.used % 2 ^ 32)) (forgotten seat.looks) fits.makes.an_object refl graph words
+      (same_grants_after_refusal heap state book number rule here Withdrawing point (SpineFull needs (seat.used % 2 ^ 32)) (forgotten seat.looks) fits.makes.an_object refl graph words
       (heap_stands_after_budget heap state book rule word) (seat_stands_after_budget heap state book rule word) (same_sources_after_budget heap state book rule word))
       (ap (λ (s : Spot). s.half) same_place) (ap (λ (s : Spot). s.offset + 0) same_place) (omega (arith, fallen)) (omega (arith, rule.space.budgets.low)) rule.space.budgets)
 
-pub withdraw_keeps : StepKeeps (places.Making Withdrawing) (λ heap. withdraw_move)
-withdraw_keeps heap state book number rule here place = withdraws heap state book number rule here place
+pub withdraw_keeps : StepKeeps (points.Making Withdrawing) (λ heap. withdraw_move)
+withdraw_keeps heap state book number rule here point = withdraws heap state book number rule here point
 
 -- all that is asked of it
-pub step_kind_of_withdrawing : StepKind (places.Making Withdrawing)
+pub step_kind_of_withdrawing : StepKind (points.Making Withdrawing)
 step_kind_of_withdrawing = record {
   keeps = λ heap state book number rule here looks. withdraw_keeps heap state book number rule here;
   shows = λ heap state number. shows_one _ (refuses_words refl);
-  looks = on_looks_of_reply (places.Making Withdrawing) (λ heap. withdraw_move) (λ seat found. replies.SpineFull (spine_need seat) (seat.used % 2 ^ 32)) (λ heap number seat. refl) (λ heap number seat. tt)
+  looks = on_looks_of_reply (points.Making Withdrawing) (λ heap. withdraw_move) (λ seat found. replies.SpineFull (spine_need seat) (seat.used % 2 ^ 32)) (λ heap number seat. refl) (λ heap number seat. tt)
       (λ heap number seat found. refl) (λ heap number seat found. refl) (λ heap number seat words found. refl);
-  words = on_words_of_plain_step (places.Making Withdrawing) (λ heap. withdraw_move) (λ heap number seat. refl) (λ heap number seat is. is) (λ heap number seat low. low)
+  words = on_words_of_plain_step (points.Making Withdrawing) (λ heap. withdraw_move) (λ heap number seat. refl) (λ heap number seat is. is) (λ heap number seat low. low)
       (λ heap state book rule number here. beside (λ g below e. omega (arith, e, below)));
-  found = λ heap state book number stands here placed. tt;
+  found = λ heap state book number stands here point_is. tt;
 }

@@ -10,12 +10,12 @@ take_over-requires-clause-reserve g c = let seat = c.party-then-has_its_fragment
 
 pub take_over-requires-clause-body : goal.take_over-requires-clause-body
 take_over-requires-clause-body g c =
-    let e = ap has_its_fragments (sym (c.place.ensures ∙ ap (λ (s : Seat). s.place) c.party.ensures.seat)) ∙ sym c.has_its_fragments.ensures ∙ c.if-has_its_fragments.true in
+    let e = ap has_its_fragments (sym (c.point.ensures ∙ ap (λ (s : Seat). s.point) c.party.ensures.seat)) ∙ sym c.has_its_fragments.ensures ∙ c.if-has_its_fragments.true in
     omega (arith, ap (λ (s : Seat). length s.body) c.party-then-has_its_fragments.ensures.seat, body_has_few_fragments c.claim_groups.new.holder c.claim_groups.ensures.sound e)
 
 pub returns-then-has_its_fragments-clause-hand : goal.returns-then-has_its_fragments-clause-hand
 returns-then-has_its_fragments-clause-hand g c =
-    let e = ap has_its_fragments (sym (c.place.ensures ∙ ap (λ (s : Seat). s.place) c.party.ensures.seat)) ∙ sym c.has_its_fragments.ensures ∙ c.if-has_its_fragments.true in
+    let e = ap has_its_fragments (sym (c.point.ensures ∙ ap (λ (s : Seat). s.point) c.party.ensures.seat)) ∙ sym c.has_its_fragments.ensures ∙ c.if-has_its_fragments.true in
     let is = c.take_over.ensures.hand ∙ ap (λ (s : Seat). s.body) c.party-then-has_its_fragments.ensures.seat in
     ap (length {A = ℕ}) is
     ∙ gathered_is_what_is_needed c.claim_groups.ensures.steps.0 c.args.holder.now c.claim_groups.new.holder c.args.reserve.now.fragments.items c.args.reserve.now.cursor c.args.need c.requires.begins
@@ -23,14 +23,14 @@ returns-then-has_its_fragments-clause-hand g c =
 
 pub returns-then-has_its_fragments-clause-object : goal.returns-then-has_its_fragments-clause-object
 returns-then-has_its_fragments-clause-object g c =
-    let e = ap has_its_fragments (sym (c.place.ensures ∙ ap (λ (s : Seat). s.place) c.party.ensures.seat)) ∙ sym c.has_its_fragments.ensures ∙ c.if-has_its_fragments.true in
+    let e = ap has_its_fragments (sym (c.point.ensures ∙ ap (λ (s : Seat). s.point) c.party.ensures.seat)) ∙ sym c.has_its_fragments.ensures ∙ c.if-has_its_fragments.true in
     let is = c.take_over.ensures.hand ∙ ap (λ (s : Seat). s.body) c.party-then-has_its_fragments.ensures.seat in
     gathered_has_its_fragments c.claim_groups.ensures.steps.0 c.args.holder.now c.claim_groups.new.holder c.args.reserve.now.fragments.items c.args.reserve.now.cursor c.args.need c.requires.begins
     c.claim_groups.ensures.begun c.claim_groups.ensures.steps.1 c.claim_groups.ensures.ends e c.take_over.new.hand.fragments.items is
 
 pub returns-then-has_its_fragments-clause-gathered : goal.returns-then-has_its_fragments-clause-gathered
 returns-then-has_its_fragments-clause-gathered g c = λ made makes.
-    let e = ap has_its_fragments (sym (c.place.ensures ∙ ap (λ (s : Seat). s.place) c.party.ensures.seat)) ∙ sym c.has_its_fragments.ensures ∙ c.if-has_its_fragments.true in
+    let e = ap has_its_fragments (sym (c.point.ensures ∙ ap (λ (s : Seat). s.point) c.party.ensures.seat)) ∙ sym c.has_its_fragments.ensures ∙ c.if-has_its_fragments.true in
     let hand_is = c.take_over.ensures.hand ∙ ap (λ (s : Seat). s.body) c.party-then-has_its_fragments.ensures.seat in
     let rest_is = c.take_over.ensures.reserve ∙ ap (λ (s : Seat). s.reserve) c.party-then-has_its_fragments.ensures.seat in
     let by = has_gathered_enough made c.args.holder.now c.claim_groups.new.holder c.args.reserve.now.fragments.items c.args.reserve.now.cursor c.args.need c.requires.begins c.claim_groups.ensures.begun makes e in
@@ -39,12 +39,12 @@ returns-then-has_its_fragments-clause-gathered g c = λ made makes.
 pub return_groups-requires-clause-returning : goal.return_groups-requires-clause-returning
 return_groups-requires-clause-returning g c =
     c.claim_groups.ensures.ends.returning
-    (ap has_its_fragments (sym (c.place.ensures ∙ ap (λ (s : Seat). s.place) c.party.ensures.seat)) ∙ sym c.has_its_fragments.ensures ∙ c.if-has_its_fragments.false)
+    (ap has_its_fragments (sym (c.point.ensures ∙ ap (λ (s : Seat). s.point) c.party.ensures.seat)) ∙ sym c.has_its_fragments.ensures ∙ c.if-has_its_fragments.false)
 
 pub return_groups-requires-clause-room : goal.return_groups-requires-clause-room
 return_groups-requires-clause-room g c =
     c.claim_groups.ensures.ends.room_to_return
-    (ap has_its_fragments (sym (c.place.ensures ∙ ap (λ (s : Seat). s.place) c.party.ensures.seat)) ∙ sym c.has_its_fragments.ensures ∙ c.if-has_its_fragments.false)
+    (ap has_its_fragments (sym (c.point.ensures ∙ ap (λ (s : Seat). s.point) c.party.ensures.seat)) ∙ sym c.has_its_fragments.ensures ∙ c.if-has_its_fragments.false)
 
 pub returns-clause-steps : goal.returns-clause-steps
 returns-clause-steps g c =
@@ -57,7 +57,7 @@ returns-clause-kept g c =
     let one = c.claim_groups.ensures.steps in
     let two = c.return_groups.ensures.steps in
     refused_keeps_reserve (one.0 ++ two.0) c.args.holder.now c.return_groups.new.holder c.args.reserve.now.fragments.items c.args.reserve.now.cursor c.args.need c.requires.begins c.claim_groups.ensures.begun
-    (makes_steps_of_append c.args.holder.now c.claim_groups.new.holder c.return_groups.new.holder one.0 two.0 one.1 two.1) c.return_groups.ensures.place
+    (makes_steps_of_append c.args.holder.now c.claim_groups.new.holder c.return_groups.new.holder one.0 two.0 one.1 two.1) c.return_groups.ensures.point
 
 pub returns-clause-full : goal.returns-clause-full
 returns-clause-full g c =
@@ -69,7 +69,7 @@ returns-clause-full g c =
       c.from.ensures,
       (refused_heap_is_exhausted (one.0 ++ two.0) c.args.holder.now c.return_groups.new.holder c.args.reserve.now.fragments.items c.args.reserve.now.cursor c.args.need c.requires.begins c.claim_groups.ensures.begun
           (makes_steps_of_append c.args.holder.now c.claim_groups.new.holder c.return_groups.new.holder one.0 two.0 one.1 two.1) (c.len.result + length c.hand.result.now)
-          c.return_groups.ensures.sound c.return_groups.ensures.place counted).1,
+          c.return_groups.ensures.sound c.return_groups.ensures.point counted).1,
     )
 
 pub returns-clause-exhausted : goal.returns-clause-exhausted
@@ -78,4 +78,4 @@ returns-clause-exhausted g c = λ made makes.
     let counted : c.len.result + length c.hand.result.now ≡ length c.args.reserve.now.fragments.items + c.return_groups.new.holder.seat.given =
     omega (arith, c.len.ensures.value, held, c.return_groups.ensures.all, c.claim_groups.ensures.ends.none_given) in
     (refused_heap_is_exhausted made c.args.holder.now c.return_groups.new.holder c.args.reserve.now.fragments.items c.args.reserve.now.cursor c.args.need c.requires.begins c.claim_groups.ensures.begun
-    makes (c.len.result + length c.hand.result.now) c.return_groups.ensures.sound c.return_groups.ensures.place counted).0
+    makes (c.len.result + length c.hand.result.now) c.return_groups.ensures.sound c.return_groups.ensures.point counted).0

@@ -12,8 +12,8 @@ loop-step-preserved g c = (while_returning_after_step _ _ _ _ _ c.due_of_returns
 pub loop-step-smaller : goal.loop-step-smaller
 loop-step-smaller g c = (while_returning_after_step _ _ _ _ _ c.due_of_returns.ensures.sound c.loop-step.invariant (sym c.due_of_returns.ensures.due ∙ c.in-Some.is) c.step.ensures.stepped c.step.ensures.told).1
 
-pub returns-clause-place : goal.returns-clause-place
-returns-clause-place g c =
+pub returns-clause-point : goal.returns-clause-point
+returns-clause-point g c =
     (returned_all_at_end c.args.holder.now c.loop-step.holder c.due_of_returns.ensures.sound c.loop-step.invariant (sym c.due_of_returns.ensures.due ∙ no_step_is_due c.due_of_returns.result c.in_default.not-Some)).0
 
 pub returns-clause-all : goal.returns-clause-all

@@ -8,17 +8,17 @@ use crate::id::{Id, Value};
 use std::alloc::{AllocError, Global};
 use std::marker::Model;
 
-/// What a walk through a graph has found so far. Each object that isn't marked yet has its place among what is found, so
+/// What a walk through a graph has found so far. Each object that isn't marked yet has its position among what is found, so
 /// that a walk takes no memory.
 #[derive(Drop)]
 pub struct Search {
     marks: Marks,
     /// What is marked, in the order in which it was found.
     found: Vec<Id>,
-    /// The place of the first of these whose cells weren't looked at yet.
+    /// The position of the first of these whose cells weren't looked at yet.
     next: usize,
     /// For so many marks there is room.
-    places: usize,
+    positions: usize,
 }
 
 impl Model for Search {
@@ -29,7 +29,7 @@ impl Model for Search {
 
     ghost view = { λ s. record { marks = s.marks; waiting = drop s.next s.found.items } };
 
-    ghost invariant = { λ s. HasFound s.marks s.found.items s.next (vec_len s.found) s.places (vec_capacity s.found) };
+    ghost invariant = { λ s. HasFound s.marks s.found.items s.next (vec_len s.found) s.positions (vec_capacity s.found) };
 }
 
 impl Search {
@@ -43,15 +43,15 @@ impl Search {
         requires { length seats.now ≤ most_seats }
         ensures { IfOk result (λ search. mark_counts search.marks ≡ map (λ seat. length seat.objects) seats.now) }
     {
-        let mut places = 1;
+        let mut positions = 1;
         for seat in seats {
-            places += seat.made();
+            positions += seat.made();
         }
         Ok(Search {
             marks: Marks::new(alloc, seats)?,
-            found: Vec::with_capacity(alloc, places)?,
+            found: Vec::with_capacity(alloc, positions)?,
             next: 0,
-            places,
+            positions,
         })
     }
 
@@ -60,9 +60,9 @@ impl Search {
         ensures added { OnOk result (mark_counts self.new.marks ≡ slice_set (mark_counts self.old.marks) seat (slice_index_or (mark_counts self.old.marks) seat 0 + 1)) }
         ensures unchanged { OnErr result (self.new ≡ self.old) }
     {
-        self.found.reserve(self.places + 1 - self.found.len())?;
+        self.found.reserve(self.positions + 1 - self.found.len())?;
         self.marks.add(seat)?;
-        self.places += 1;
+        self.positions += 1;
         Ok(())
     }
 

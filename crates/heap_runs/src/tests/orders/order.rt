@@ -49,8 +49,8 @@ pub(super) fn books_of(
     requires { IsHeap heap }
 {
     let mut books = Books::opening(alloc, heap)?;
-    for (place, number) in order.iter().enumerate() {
-        let (before, _) = order.split_at(place);
+    for (position, number) in order.iter().enumerate() {
+        let (before, _) = order.split_at(position);
         let Some(entry) = rest_of(logs, before, *number).first() else {
             return Ok(None);
         };

@@ -31,7 +31,7 @@ struct Search<'a> {
 }
 
 impl Search<'_> {
-    /// The place at which the seat's next command was begun.
+    /// The position at which the seat's next command was begun.
     fn begin_of(&self, seat: u8) -> usize {
         let made = replies_of(self.logs, &self.order, seat as usize);
         let mut begins = self
@@ -40,7 +40,7 @@ impl Search<'_> {
             .enumerate()
             .filter(|(_, other)| **other == seat);
         match begins.nth(made) {
-            Some((place, _)) => place,
+            Some((position, _)) => position,
             None => self.begun.len(),
         }
     }
@@ -110,7 +110,7 @@ impl Search<'_> {
         self.reopen()?;
         let choices = self.choices();
         let tried = choices.iter().position(|other| *other == number);
-        Ok(tried.map(|place| place.saturating_add(1)))
+        Ok(tried.map(|position| position.saturating_add(1)))
     }
 
     /// Whether the order has all entries, and nothing is in use behind them.

@@ -63,8 +63,8 @@ impl Together {
     pub fn order(&self, alloc: Global) -> Result<Vec<u8>, Memory> {
         let passed = self.passed.load(Ordering::SeqCst);
         let mut order = Vec::new(alloc);
-        for (place, seat) in self.seats.iter().enumerate() {
-            if (place as u64) < passed {
+        for (position, seat) in self.seats.iter().enumerate() {
+            if (position as u64) < passed {
                 order.push(u8::try_from(seat.load(Ordering::SeqCst)).unwrap_or(u8::MAX))?;
             }
         }
@@ -78,8 +78,8 @@ impl Gate for Together {
             yield_now();
         }
         self.meet(seat, n);
-        let place = self.passed.fetch_add(1, Ordering::SeqCst);
-        if let Some(passing) = self.seats.get(place as usize) {
+        let position = self.passed.fetch_add(1, Ordering::SeqCst);
+        if let Some(passing) = self.seats.get(position as usize) {
             passing.store(u64::from(seat), Ordering::SeqCst);
         }
     }

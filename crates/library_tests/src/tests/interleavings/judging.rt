@@ -8,9 +8,9 @@ use std::alloc::Global;
 /// What is wrong with a play.
 #[derive(Clone, Copy, Debug, PartialEq)]
 pub(super) enum Fault {
-    /// The entry at this place may not stand there.
+    /// The entry at this position may not stand there.
     NotLegal(usize),
-    /// The log at this place has other entries than its party told.
+    /// The log at this position has other entries than its party told.
     OtherLog(usize),
     /// Something is in use at the end.
     InUse,
@@ -41,12 +41,12 @@ fn fault_among(alloc: Global, heap: Heap, told: &Told) -> Result<Option<Fault>, 
 {
     let mut graph = Graph::new(alloc, heap)?;
     let mut account = Account::new(alloc, heap)?;
-    for (place, entry) in told.iter().enumerate() {
+    for (position, entry) in told.iter().enumerate() {
         let Some(entry) = entry else {
-            return Ok(Some(Fault::NotLegal(place)));
+            return Ok(Some(Fault::NotLegal(position)));
         };
         if !accepts(&mut graph, &mut account, entry)? {
-            return Ok(Some(Fault::NotLegal(place)));
+            return Ok(Some(Fault::NotLegal(position)));
         }
     }
     if account.used() > 0 || account.spine() > 0 {
@@ -75,10 +75,10 @@ pub(super) fn fault_in(
 ) -> Result<Option<Fault>, Memory>
     requires { IsHeap heap }
 {
-    for (place, log) in closed.logs().iter().enumerate() {
-        let party = u8::try_from(place).ok().filter(|&seat| seat < heap.seats);
+    for (position, log) in closed.logs().iter().enumerate() {
+        let party = u8::try_from(position).ok().filter(|&seat| seat < heap.seats);
         if !has_told(told, party, log.as_slice()) {
-            return Ok(Some(Fault::OtherLog(place)));
+            return Ok(Some(Fault::OtherLog(position)));
         }
     }
     fault_among(alloc, heap, told)

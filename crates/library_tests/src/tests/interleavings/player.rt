@@ -1,7 +1,7 @@
 ghost use Rattle.std.specs.Prelude.{◌≡◌, map, IfOk};
 ghost use Rattle.library_tests.specs.SameSeat.{IsSameSeat};
 
-use core_machine::{Access, Place};
+use core_machine::{Access, Point};
 use heap_model::{Command, Entry, Memory};
 use heap_table::Holder;
 use script_text::Line;
@@ -10,7 +10,7 @@ use std::alloc::Global;
 /// The entries of all parties in the order in which they came. A get's reply stands where its field was loaded; until its object's name is loaded too, none stands there.
 pub(super) type Told = Vec<Option<Entry>>;
 
-/// A seat's holder with its commands that are yet to come, the last one first, and the place of the reply that it awaits.
+/// A seat's holder with its commands that are yet to come, the last one first, and the position of the reply that it awaits.
 #[derive(Drop)]
 pub(super) struct Player {
     pub holder: Holder,
@@ -109,11 +109,11 @@ impl Player {
     {
         for entry in self.holder.log().iter().skip(before) {
             match self.awaited.take() {
-                Some(place) => put(told, place, *entry),
+                Some(position) => put(told, position, *entry),
                 None => told.push(Some(*entry))?,
             }
         }
-        if let Place::Access(Access::Naming) = self.holder.party().place() {
+        if let Point::Access(Access::Naming) = self.holder.party().point() {
             self.awaited = Some(told.len());
             told.push(None)?;
         }
@@ -121,9 +121,9 @@ impl Player {
     }
 }
 
-/// The entry that was awaited at this place stands there.
-fn put(told: &mut Told, place: usize, entry: Entry) {
-    if let Some(awaited) = told.get_mut(place) {
+/// The entry that was awaited at this position stands there.
+fn put(told: &mut Told, position: usize, entry: Entry) {
+    if let Some(awaited) = told.get_mut(position) {
         *awaited = Some(entry);
     }
 }

@@ -1,7 +1,7 @@
 //! The space line and the end line.
 
 pub const CASES: [&str; 29] = [
-    // The space line shows four counts as they are at its place.
+    // The space line shows four counts as they are at its position.
     "bare; space used 11 of 16 spine 0 of 0; end used 11 => legal 0",
     "bare; space used 10 of 16 spine 0 of 0; end used 11 => not legal at line 3",
     "bare; space used 12 of 16 spine 0 of 0; end used 11 => not legal at line 3",

@@ -11,22 +11,22 @@ use Rattle.core_machine.proofs.table.fragments.leave_out.Goals.{then-fragment-gr
 refilled : (xs ws : List ℕ) → length ws ≡ length xs → take (length xs) (ws ++ drop (length ws) xs) ≡ ws
 refilled xs ws same = rw (drop_all (length ws) xs (omega arith), append-nil ws) (take_all (length xs) ws (omega arith))
 
-pub loop-place-init : goal.loop-place-init
-loop-place-init c = record { front = refl; rest = refl; behind = omega arith; within = omega arith; long = refl }
+pub loop-position-init : goal.loop-position-init
+loop-position-init c = record { front = refl; rest = refl; behind = omega arith; within = omega arith; long = refl }
 
-pub loop-place-preserved : goal.loop-place-preserved
-loop-place-preserved c =
-    let hand = c.loop-place.hand.items in
-    let here = get_or c.deref.result.now c.loop-place.place 0 in
-    let within : c.loop-place.place < length hand = omega (arith, c.loop-place-test.true, c.len-place-end.ensures.value, c.loop-place.invariant.long) in
-    let read : here ≡ get_or hand c.loop-place.place here = ap (λ (l : List ℕ). get_or l c.loop-place.place 0) c.deref.ensures.0 ∙ sym (get_or_default_zero hand c.loop-place.place here within) in
+pub loop-position-preserved : goal.loop-position-preserved
+loop-position-preserved c =
+    let hand = c.loop-position.hand.items in
+    let here = get_or c.deref.result.now c.loop-position.position 0 in
+    let within : c.loop-position.position < length hand = omega (arith, c.loop-position-test.true, c.len-position-end.ensures.value, c.loop-position.invariant.long) in
+    let read : here ≡ get_or hand c.loop-position.position here = ap (λ (l : List ℕ). get_or l c.loop-position.position 0) c.deref.ensures.0 ∙ sym (get_or_default_zero hand c.loop-position.position here within) in
     elim c.if-fragment-group.branch [
       | then-fragment-group w ↦
           let out : out_of_group c.args.group here ≡ true = ap not (ne_eqb (here / 16) c.args.group w.if-fragment-group.true) in
-          let written : c.if-fragment-group.hand.items ≡ set hand c.loop-place.kept here =
-          rw (w.hand-is, w.deref_mut.ensures.value) (refilled hand (set hand c.loop-place.kept here) (length-set hand c.loop-place.kept here)) in
-          rw (written, w.kept-is) (FiltersInPlace-more_set c.loop-place.invariant within out read)
+          let written : c.if-fragment-group.hand.items ≡ set hand c.loop-position.kept here =
+          rw (w.hand-is, w.deref_mut.ensures.value) (refilled hand (set hand c.loop-position.kept here) (length-set hand c.loop-position.kept here)) in
+          rw (written, w.kept-is) (FiltersInPlace-more_set c.loop-position.invariant within out read)
       | else-fragment-group w ↦
           let in_ : out_of_group c.args.group here ≡ false = ap not (eq-eqb (here / 16) c.args.group w.if-fragment-group.false) in
-          rw (w.hand-is, w.kept-is) (FiltersInPlace-more_no c.loop-place.invariant within in_ read)
+          rw (w.hand-is, w.kept-is) (FiltersInPlace-more_no c.loop-position.invariant within in_ read)
     ]

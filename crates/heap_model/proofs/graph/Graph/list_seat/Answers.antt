@@ -9,10 +9,10 @@ use Rattle.heap_model.proofs.graph.Graph.list_seat.Goals.{then-is_marked+in_ok-p
 
 pub loop-count-preserved : goal.loop-count-preserved
 loop-count-preserved c =
-    let place = Made c.args.seat c.loop-count.count in
+    let position = Made c.args.seat c.loop-count.count in
     elim c.if-is_marked.branch [
-      | then-is_marked+in_ok-push w ↦ rw (w.ids-is, w.in_ok-push.ensures.items) (IsListed-push c.args.marks.now place c.loop-count.ids.items c.loop-count.invariant (c.is_marked.ensures.marked.0 w.if-is_marked.true))
-      | else-is_marked w ↦ rw w.ids-is (IsListed-skip c.args.marks.now place c.loop-count.ids.items c.loop-count.invariant (iff_false c.is_marked.ensures.marked w.if-is_marked.false))
+      | then-is_marked+in_ok-push w ↦ rw (w.ids-is, w.in_ok-push.ensures.items) (IsListed-push c.args.marks.now position c.loop-count.ids.items c.loop-count.invariant (c.is_marked.ensures.marked.0 w.if-is_marked.true))
+      | else-is_marked w ↦ rw w.ids-is (IsListed-skip c.args.marks.now position c.loop-count.ids.items c.loop-count.invariant (iff_false c.is_marked.ensures.marked w.if-is_marked.false))
     ]
 
 pub returns : goal.returns

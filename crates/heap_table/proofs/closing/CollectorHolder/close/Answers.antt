@@ -13,14 +13,14 @@ read_all-requires-clause-folded c = subst (λ (v : CollectorHeld). AllFolded v.h
 pub of-requires : goal.of-requires
 of-requires c =
     let i = c.self.invariant in
-    closed_has_one_history c.self.inside.heap (known_by c.self.inside.token.me.0) _ c.self.inside.places.items _ _ _ c.read_all.ensures.known i.seats_are i.a_place_each c.read_all.ensures.ends c.read_all.ensures.whole
-    (closed_logs_are_known c.self.inside.places.items (known_by c.self.inside.token.me.0) c.self.inside.party.collector _ _ _ c.into_entries.result.items i.seats_are i.collector_is c.into_entries.ensures
+    closed_has_one_history c.self.inside.heap (known_by c.self.inside.token.me.0) _ c.self.inside.seat_slots.items _ _ _ c.read_all.ensures.known i.seats_are i.a_slot_each c.read_all.ensures.ends c.read_all.ensures.whole
+    (closed_logs_are_known c.self.inside.seat_slots.items (known_by c.self.inside.token.me.0) c.self.inside.party.collector _ _ _ c.into_entries.result.items i.seats_are i.collector_is c.into_entries.ensures
     (ap (map (λ log. log.items)) c.in-Ok-with_capacity.ensures.items) c.move_logs.ensures.logs (ap (map (λ log. log.items)) c.push_reserved.ensures.items ∙ map-append _ _ _)) i.folded_is
 
 pub returns-clause-logs : goal.returns-clause-logs
 returns-clause-logs c =
     let i = c.self.invariant in
     ap (λ v. v.logs) c.of.ensures
-    ∙ closed_logs_are_known c.self.inside.places.items (known_by c.self.inside.token.me.0) c.self.inside.party.collector _ _ _ c.into_entries.result.items i.seats_are i.collector_is c.into_entries.ensures
+    ∙ closed_logs_are_known c.self.inside.seat_slots.items (known_by c.self.inside.token.me.0) c.self.inside.party.collector _ _ _ c.into_entries.result.items i.seats_are i.collector_is c.into_entries.ensures
     (ap (map (λ log. log.items)) c.in-Ok-with_capacity.ensures.items) c.move_logs.ensures.logs (ap (map (λ log. log.items)) c.push_reserved.ensures.items ∙ map-append _ _ _)
     ∙ ap (λ (v : CollectorHeld). logs_known v.known) c.self.view_is

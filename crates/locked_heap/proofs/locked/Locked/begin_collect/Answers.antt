@@ -38,7 +38,7 @@ invariant_of-self-2 g c =
       run = is_run_after_inner given old c.inner.new.self c.self.invariant.run number Look makes;
       come = all_have_come_after_look given old c.inner.new.self seats number c.self.invariant.come _ makes next (record { target = none; first = first_look_is_none (seat_at old.machine.state number).looks.first (progress_at seats number).target none come.target })
           (book_stands_for_run given old c.self.invariant.run c.law_every_run.ensures.run) c.next_whole_cycle-target.result (omega (arith, c.phase.ensures.phase, c.next_whole_cycle-target.ensures.behind))
-          (omega (arith, c.phase.ensures.phase, c.next_whole_cycle-target.ensures.first)) refl (ap (λ (p : Progress). p.place) (sym read)) (ap (λ (p : Progress). p.gone) (sym read))
+          (omega (arith, c.phase.ensures.phase, c.next_whole_cycle-target.ensures.first)) refl (ap (λ (p : Progress). p.position) (sym read)) (ap (λ (p : Progress). p.gone) (sym read))
           (c.finds-paid.ensures ∙ ap (λ (v : LockedValue). (seat_at v.recorded.machine.state number).looks.waits) (sym c.self.view_is));
       parted = is_parted_after_progress given c.inner.new.self.history seats number _ c.self.invariant.come.seated next.within (ap (λ (p : Progress). p.gone) (sym read) ∙ next.there);
       patient = c.self.invariant.patient;

@@ -34,7 +34,7 @@ invariant_of-self-2 g c =
     record {
       run = is_run_after_call g.N.Handed.given inside.recorder c.call.new.self c.self.invariant.run c.args.seat c.args.command.now _ makes;
       come = all_have_come_after_call c.law_every_run.ensures.run g.N.Handed.given inside.recorder c.call.new.self inside.seats.items c.args.seat c.args.command.now _ c.self.invariant.run c.self.invariant.come next.within makes
-          _ next c.requires.once (ap (λ (p : Progress). record p { place = p.place + 1 }) (sym read));
+          _ next c.requires.once (ap (λ (p : Progress). record p { position = p.position + 1 }) (sym read));
       parted = is_parted_after_progress g.N.Handed.given c.call.new.self.history inside.seats.items c.args.seat _ c.self.invariant.come.seated next.within (ap (λ (p : Progress). p.gone) (sym read) ∙ next.there);
       patient = c.self.invariant.patient;
     }
@@ -45,9 +45,9 @@ overflow_add-progress g c =
     let inside = c.self.inside in
     let next : IsNext given inside.seats.items c.args.seat c.args.command.now = subst (λ (v : LockedValue). IsNext given v.seats c.args.seat c.args.command.now) (sym c.self.view_is) c.requires.next in
     let read = read_progress_is_seats inside.seats.items c.args.seat c.index-progress.result.now (omega (arith, next.within, c.self.invariant.come.seated)) c.index-progress.ensures in
-    let within = slice_get_within (script_of given c.args.seat) (progress_at inside.seats.items c.args.seat).place c.args.command.now next.next in
+    let within = slice_get_within (script_of given c.args.seat) (progress_at inside.seats.items c.args.seat).position c.args.command.now next.next in
     let script = given_script_is_right c.law_every_run.ensures.run given inside.recorder inside.seats.items c.args.seat c.self.invariant.run c.self.invariant.come next.within in
-    omega (arith, ap (λ (p : Progress). p.place) read, within, script.few)
+    omega (arith, ap (λ (p : Progress). p.position) read, within, script.few)
 
 pub split_at-requires : goal.split_at-requires
 split_at-requires g c =

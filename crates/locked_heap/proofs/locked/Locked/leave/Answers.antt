@@ -17,8 +17,8 @@ pub invariant_of-self-2 : goal.invariant_of-self-2
 invariant_of-self-2 g c =
     let inside = c.self.inside in
     let there : (progress_at inside.seats.items c.args.seat).gone ≡ false = subst (λ (v : LockedValue). (progress_at v.seats c.args.seat).gone ≡ false) (sym c.self.view_is) c.requires.there in
-    let through : (progress_at inside.seats.items c.args.seat).place ≡ length (script_of g.N.Handed.given c.args.seat)
-    = subst (λ (v : LockedValue). (progress_at v.seats c.args.seat).place ≡ length (script_of g.N.Handed.given c.args.seat)) (sym c.self.view_is) c.requires.through in
+    let through : (progress_at inside.seats.items c.args.seat).position ≡ length (script_of g.N.Handed.given c.args.seat)
+    = subst (λ (v : LockedValue). (progress_at v.seats c.args.seat).position ≡ length (script_of g.N.Handed.given c.args.seat)) (sym c.self.view_is) c.requires.through in
     let makes = c.in_ok-call.ensures.makes in
     let read = read_progress_is_seats inside.seats.items c.args.seat c.index-progress.result.now (omega (arith, c.requires.within, c.self.invariant.come.seated)) c.index-progress.ensures in
     record {

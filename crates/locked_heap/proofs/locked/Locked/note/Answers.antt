@@ -33,7 +33,7 @@ invariant_of-self-2 g c =
     record {
       run = is_run_after_inner g.N.Handed.given inside.recorder c.inner.new.self c.self.invariant.run c.args.seat _ makes;
       come = all_have_come_after_note g.N.Handed.given inside.recorder c.inner.new.self inside.seats.items c.args.seat c.self.invariant.come c.args.self.now _ _ c.args.came _ (sym c.self.view_is) makes next c.requires.may refl
-          (ap (λ (p : Progress). p.place + 1) (sym read)) (ap (λ (p : Progress). p.gone) (sym read)) (c.finds-finds.ensures ∙ ap (λ (v : LockedValue). (seat_at v.recorded.machine.state c.args.seat).looks.waits) (sym c.self.view_is));
+          (ap (λ (p : Progress). p.position + 1) (sym read)) (ap (λ (p : Progress). p.gone) (sym read)) (c.finds-finds.ensures ∙ ap (λ (v : LockedValue). (seat_at v.recorded.machine.state c.args.seat).looks.waits) (sym c.self.view_is));
       parted = is_parted_after_progress g.N.Handed.given c.inner.new.self.history inside.seats.items c.args.seat _ c.self.invariant.come.seated next.within (ap (λ (p : Progress). p.gone) (sym read) ∙ next.there);
       patient = c.self.invariant.patient;
     }

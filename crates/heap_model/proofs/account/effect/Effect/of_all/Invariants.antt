@@ -5,6 +5,6 @@ use Rattle.heap_model.proofs.account.effect.Effect.of_all.Given as goal
 
 abbrev pub invariant-loop-entry : goal.invariant-loop-entry
 invariant-loop-entry l = record {
-  sums : IsMeasured l.all (λ part. total part (take l.entry-index l.entries));
+  sums : IsMeasured l.all (λ summand. total summand (take l.entry-index l.entries));
   few : IsFew l.entry-index l.all;
 }

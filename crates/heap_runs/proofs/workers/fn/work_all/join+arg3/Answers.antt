@@ -15,11 +15,11 @@ returns g c =
     let done : List (Result SeatHeld Memory) = c.in_ok-done.field-0.items in
     let ended : HaveEnded c.captures.patience scripts seats done = record {
       each_once = sym c.in_ok-done.field-0.ok.0 ∙ c.in_ok-done.ensures.len ∙ c.captures.seats.ok.0;
-      each = λ place old end was now.
-          let gives = (c.in_ok-done.ensures.each place end (slice_get_within seats place old was)).1 in
-          let met : IfOk (slice_index_or done place end) (HasWorked c.captures.patience gives.job (script_at scripts gives.job.number)) = gives.call.met in
-          let job : gives.job ≡ old = sym (gives.job_is old) ∙ get_or_from_slice_get seats place old old was in
-          subst (λ (end : Result SeatHeld Memory). IfOk end (HasWorked c.captures.patience old (script_at scripts old.number))) (get_or_from_slice_get done place end end now)
-          (subst (λ (held : SeatHeld). IfOk (slice_index_or done place end) (HasWorked c.captures.patience held (script_at scripts held.number))) job met);
+      each = λ position old end was now.
+          let gives = (c.in_ok-done.ensures.each position end (slice_get_within seats position old was)).1 in
+          let met : IfOk (slice_index_or done position end) (HasWorked c.captures.patience gives.job (script_at scripts gives.job.number)) = gives.call.met in
+          let job : gives.job ≡ old = sym (gives.job_is old) ∙ get_or_from_slice_get seats position old old was in
+          subst (λ (end : Result SeatHeld Memory). IfOk end (HasWorked c.captures.patience old (script_at scripts old.number))) (get_or_from_slice_get done position end end now)
+          (subst (λ (held : SeatHeld). IfOk (slice_index_or done position end) (HasWorked c.captures.patience held (script_at scripts held.number))) job met);
     } in
     if_ok_implied _ (λ (back : Vec SeatHeld Global). HaveWorked c.captures.patience scripts seats back.items) c.each_seat.result (λ back is. all_have_worked c.captures.patience scripts seats back.items done ended is) c.each_seat.ensures

@@ -13,25 +13,25 @@ use heap_model::Memory;
 use std::alloc::Global;
 use std::marker::Brand;
 
-/// A place for each seat, with none in it yet.
-pub fn empty_places<L: Entries>(
+/// A slot for each seat, with none in it yet.
+pub fn empty_slots<L: Entries>(
     alloc: Global,
     seats: u8,
 ) -> Result<Vec<Option<SeatParty<L>>>, Memory>
-    ensures { IfOk result (λ places. places.items ≡ replicate seats None) }
+    ensures { IfOk result (λ seat_slots. seat_slots.items ≡ replicate seats None) }
 {
-    let mut places = Vec::new(alloc);
+    let mut seat_slots = Vec::new(alloc);
     for _ in 0..seats {
-        places.push(None)?;
+        seat_slots.push(None)?;
     }
-    Ok(places)
+    Ok(seat_slots)
 }
 
-/// Whether there is a seat in each of these places.
-fn all_full<L: Entries>(places: &[Option<SeatParty<L>>]) -> bool
-    ensures { result ≡ list_all is_some places.now }
+/// Whether there is a seat in each of these slots.
+fn all_full<L: Entries>(seat_slots: &[Option<SeatParty<L>>]) -> bool
+    ensures { result ≡ list_all is_some seat_slots.now }
 {
-    places.iter().all(|place| place.is_some())
+    seat_slots.iter().all(|slot| slot.is_some())
 }
 
 impl<L: Entries, C: CountsEntries> CollectorHolder<L, C> {
@@ -66,21 +66,21 @@ impl<L: Entries, C: CountsEntries> CollectorHolder<L, C> {
     pub fn all_folded(&self) -> bool
         ensures { IsTrue result ↔ AllFolded self.now.heap self.now.known.seats }
     {
-        all_full(self.places.as_slice())
+        all_full(self.seat_slots.as_slice())
     }
 
-    /// Takes in a seat that has left: its data with its log move into its place.
+    /// Takes in a seat that has left: its data with its log move into its slot.
     pub fn fold_in(&mut self, from: Holder<L>)
         requires table { (from.table ≡ self.old.table) × (from.heap ≡ self.old.heap) }
         requires left { from.seat.left ≡ true }
         ensures { self.new ≡ record self.old { known = with_folded self.old.known from.number from.seat } }
     {
-        let place = from.number() as usize;
-        let (token, party) = from.into_parts();
+        let position = from.number() as usize;
+        let (token, party) = from.into_token_and_party();
         self.table
             .shared
             .join_seat::<FoldsIn>(&mut self.token, token);
         self.folded = self.party.phase();
-        self.places[place] = Some(party);
+        self.seat_slots[position] = Some(party);
     }
 }

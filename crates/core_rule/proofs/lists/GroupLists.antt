@@ -4,10 +4,10 @@ use Rattle.std.proofs.Common.{◌≡◌, ◌≢◌, ℕ, zero, suc, ◌+◌, ◌
 use Rattle.std.proofs.lemmas.Bool.{false≢true, true≢false, eq-eqb}
 use Rattle.std.proofs.lemmas.Bool.Decides.{eqb_tells}
 use Rattle.std.proofs.lemmas.List.Filters.{length-filter_both}
-use Rattle.core_rule.proofs.Terms.{in_group, out_of_group, part_in, part_out, tally, first_group_of, sum_upto, one_at}
+use Rattle.core_rule.proofs.Terms.{in_group, out_of_group, inside_group, outside_group, tally, first_group_of, sum_upto, one_at}
 use Rattle.core_machine.proofs.table_lemmas.Bits.{true_or_false}
 use Rattle.core_machine.proofs.table_lemmas.Free.{sum_of_nothing_is_zero}
-use Rattle.core_rule.proofs.lists.SumLemmas.{sum_parts}
+use Rattle.core_rule.proofs.lists.SumLemmas.{sum_in_two_summands}
 use Rattle.core_rule.proofs.lists.Tallies.{one_at_same_is_one, one_at_other_is_none, sum_of_tallies_is_length}
 
 -- a number of things is none where it isn't one or more
@@ -67,54 +67,54 @@ tally-range_above f a (suc n) high =
     omega (arith, one_at_other_is_none a f (λ e. omega (arith, e)), tally-range_above f (a + 1) n (omega arith))
 
 module _ (g f : ℕ) (xs : List ℕ) where
-  -- the part in a group has what is of the group
-  pub part_in_has_own_group : f / 16 ≡ g → tally f (part_in g xs) ≡ tally f xs
-  part_in_has_own_group here = tally-filter_yes (in_group g) f xs (elim (eqb_tells (f / 16) g) as (λ _. in_group g f ≡ true) [
+  -- what is inside a group has all that is of the group
+  pub inside_group_has_own_fragments : f / 16 ≡ g → tally f (inside_group g xs) ≡ tally f xs
+  inside_group_has_own_fragments here = tally-filter_yes (in_group g) f xs (elim (eqb_tells (f / 16) g) as (λ _. in_group g f ≡ true) [
     | inl same ↦ same.0
     | inr apart ↦ absurd (apart.1 here)
   ])
 
-  pub part_in_has_no_other : f / 16 ≢ g → tally f (part_in g xs) ≡ 0
-  part_in_has_no_other away = tally-filter_no (in_group g) f xs (elim (eqb_tells (f / 16) g) as (λ _. in_group g f ≡ false) [
+  pub inside_group_has_no_other : f / 16 ≢ g → tally f (inside_group g xs) ≡ 0
+  inside_group_has_no_other away = tally-filter_no (in_group g) f xs (elim (eqb_tells (f / 16) g) as (λ _. in_group g f ≡ false) [
     | inl same ↦ absurd (away same.1)
     | inr apart ↦ apart.0
   ])
 
-  part_out-here : f / 16 ≡ g → tally f (part_out g xs) ≡ 0
-  part_out-here here = tally-filter_no (out_of_group g) f xs (elim (eqb_tells (f / 16) g) as (λ _. out_of_group g f ≡ false) [
+  outside_group-here : f / 16 ≡ g → tally f (outside_group g xs) ≡ 0
+  outside_group-here here = tally-filter_no (out_of_group g) f xs (elim (eqb_tells (f / 16) g) as (λ _. out_of_group g f ≡ false) [
     | inl same ↦ ap not same.0
     | inr apart ↦ absurd (apart.1 here)
   ])
 
-  part_out-away : f / 16 ≢ g → tally f (part_out g xs) ≡ tally f xs
-  part_out-away away = tally-filter_yes (out_of_group g) f xs (elim (eqb_tells (f / 16) g) as (λ _. out_of_group g f ≡ true) [
+  outside_group-away : f / 16 ≢ g → tally f (outside_group g xs) ≡ tally f xs
+  outside_group-away away = tally-filter_yes (out_of_group g) f xs (elim (eqb_tells (f / 16) g) as (λ _. out_of_group g f ≡ true) [
     | inl same ↦ absurd (away same.1)
     | inr apart ↦ ap not apart.0
   ])
 
-  -- both parts together are the list
-  pub part_tallies_make_whole : tally f (part_in g xs) + tally f (part_out g xs) ≡ tally f xs
-  part_tallies_make_whole = elim (eqb_tells (f / 16) g) as (λ _. tally f (part_in g xs) + tally f (part_out g xs) ≡ tally f xs) [
-    | inl same ↦ omega (arith, part_in_has_own_group same.1, part_out-here same.1)
-    | inr apart ↦ omega (arith, part_in_has_no_other apart.1, part_out-away apart.1)
+  -- inside and outside together are the list
+  pub inside_and_outside_tallies_make_whole : tally f (inside_group g xs) + tally f (outside_group g xs) ≡ tally f xs
+  inside_and_outside_tallies_make_whole = elim (eqb_tells (f / 16) g) as (λ _. tally f (inside_group g xs) + tally f (outside_group g xs) ≡ tally f xs) [
+    | inl same ↦ omega (arith, inside_group_has_own_fragments same.1, outside_group-here same.1)
+    | inr apart ↦ omega (arith, inside_group_has_no_other apart.1, outside_group-away apart.1)
   ]
 
 -- so are their lengths
-pub part_lengths_make_whole : (g : ℕ) (xs : List ℕ) → length (part_in g xs) + length (part_out g xs) ≡ length xs
-part_lengths_make_whole g xs = length-filter_both (in_group g) (out_of_group g) (λ x. refl) xs
+pub inside_and_outside_lengths_make_whole : (g : ℕ) (xs : List ℕ) → length (inside_group g xs) + length (outside_group g xs) ≡ length xs
+inside_and_outside_lengths_make_whole g xs = length-filter_both (in_group g) (out_of_group g) (λ x. refl) xs
 
 -- a list of fragments of one group, each counted in the group
 pub group_tallies_are_length : (g : ℕ) (fs : List ℕ) → ((f : ℕ) → 1 ≤ tally f fs → f / 16 ≡ g) → sum_upto 16 (λ j. tally (16 * g + j) fs) ≡ length fs
 group_tallies_are_length g fs here =
     let all : sum_upto (16 * g + 16) (λ f. tally f fs) ≡ length fs = sum_of_tallies_is_length (16 * g + 16) fs (λ f there. omega (arith, here f there)) in
     let before : sum_upto (16 * g) (λ f. tally f fs) ≡ 0 = sum_of_nothing_is_zero (16 * g) (λ f. tally f fs) (λ f below. zero_where_not_positive (tally f fs) (λ there. omega (arith, here f there, below))) in
-    let parts : sum_upto (16 * g + 16) (λ f. tally f fs) ≡ sum_upto (16 * g) (λ f. tally f fs) + sum_upto 16 (λ j. tally (16 * g + j) fs) = sum_parts (16 * g) 16 (λ f. tally f fs) in
-    omega (arith, all, before, parts)
+    let summands : sum_upto (16 * g + 16) (λ f. tally f fs) ≡ sum_upto (16 * g) (λ f. tally f fs) + sum_upto 16 (λ j. tally (16 * g + j) fs) = sum_in_two_summands (16 * g) 16 (λ f. tally f fs) in
+    omega (arith, all, before, summands)
 
 -- the first group of a hand has a fragment of it
-pub first_group_part_is_some : (hand : List ℕ) → 0 < length hand → 1 ≤ length (part_in (first_group_of hand) hand)
-first_group_part_is_some [] some = absurd (omega (arith, some))
-first_group_part_is_some (f ∷ hand) some = let here : in_group (f / 16) f ≡ true = eq-eqb (f / 16) (f / 16) refl in rw here (omega arith)
+pub inside_first_group_is_some : (hand : List ℕ) → 0 < length hand → 1 ≤ length (inside_group (first_group_of hand) hand)
+inside_first_group_is_some [] some = absurd (omega (arith, some))
+inside_first_group_is_some (f ∷ hand) some = let here : in_group (f / 16) f ≡ true = eq-eqb (f / 16) (f / 16) refl in rw here (omega arith)
 
 -- a filter that all pass keeps the list
 pub filter_keeps_all : (p : ℕ → Bool) (xs : List ℕ) → list_all p xs ≡ true → filter p xs ≡ xs

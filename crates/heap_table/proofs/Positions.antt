@@ -1,14 +1,14 @@
--- Places of lists: which stand, and what a longer list has at them.
+-- Positions of lists: which stand, and what a longer list has at them.
 use Rattle.std.proofs.Common.{zero, suc, ◌≡◌, ℕ, ◌<◌, ◌≤◌, List, [], ◌∷◌, ◌++◌, length, replicate, Some, None, refl, sym, arith}
 use mathlib.Core.Option.{some, none, some-injective, some-ne-none}
 use lib.ListN.{get_elem?}
 
 module _ {A : Type 0} where
   -- what stands somewhere stands within its list
-  pub place_within_list : (l : List A) (i : ℕ) (a : A) → get_elem? l i ≡ some a → i < length l
-  place_within_list [] i a e = absurd (some-ne-none a (sym e))
-  place_within_list (x ∷ xs) zero a e = omega arith
-  place_within_list (x ∷ xs) (suc i) a e = let below = place_within_list xs i a e in omega arith
+  pub position_within_list : (l : List A) (i : ℕ) (a : A) → get_elem? l i ≡ some a → i < length l
+  position_within_list [] i a e = absurd (some-ne-none a (sym e))
+  position_within_list (x ∷ xs) zero a e = omega arith
+  position_within_list (x ∷ xs) (suc i) a e = let below = position_within_list xs i a e in omega arith
 
   -- a longer list has the same there
   pub get_stays_by_append : (l m : List A) (i : ℕ) → i < length l → get_elem? (l ++ m) i ≡ get_elem? l i
@@ -33,7 +33,7 @@ module _ {A : Type 0} where
       inside : Some a ≡ Some b → a ≡ b
       inside f = cc
 
-  -- among places that are all empty none is full
+  -- among positions that are all empty none is full
   pub all_empty_none_full : (n i : ℕ) (a : A) → get_elem? (replicate n None) i ≡ some (Some a) → ⊥
   all_empty_none_full zero i a e = some-ne-none _ (sym e)
   all_empty_none_full (suc n) zero a e = let f = some-injective _ _ e in cc f

@@ -1,27 +1,27 @@
--- A search has a place for each object that it may find.
+-- A search has a position for each object that it may find.
 use Rattle.std.proofs.Common.{◌≡◌, ℕ, ◌+◌, ◌<◌, ◌≤◌, inl, inr, Bool, true, false, not, cond, List, [], ◌∷◌, ◌++◌, length, sum, sum_by, count_by, Some, sym, ap, subst, arith, length-append}
 use Rattle.std.proofs.lemmas.Bool.{cases_lt}
 use Rattle.std.proofs.lemmas.List.{set_past}
 use Rattle.std.proofs.lemmas.List.Sums.{sum-map, sum_by-set, sum_by_push, sum_by-le-sum_by, count_by-le-length}
 use Rattle.heap_model.specs.declared.id.Id.{Id}
 use Rattle.heap_model.specs.graph.Marking.{Marking, marks_of, mark_of, with_mark, unmarked, all_marks, mark_counts}
-use Rattle.heap_model.specs.graph.Search.{HasPlaces}
+use Rattle.heap_model.specs.graph.Search.{HasPositions}
 use Rattle.heap_model.proofs.graph_lemmas.FoundLemmas.{added}
 use Rattle.heap_model.proofs.graph_lemmas.MarkLemmas.{unmarked-with_mark, mark_counts-with_mark}
 
--- a place is left for an object that is marked now
-pub marking_leaves_a_place : (m : Marking) (id : Id) (waiting places capacity : ℕ) → mark_of m id ≡ Some false → HasPlaces m waiting places capacity → waiting < capacity
-marking_leaves_a_place m id waiting places capacity fresh has = omega (arith, unmarked-with_mark m id fresh, has.left, has.room)
+-- a position is left for an object that is marked now
+pub marking_leaves_a_position : (m : Marking) (id : Id) (waiting positions capacity : ℕ) → mark_of m id ≡ Some false → HasPositions m waiting positions capacity → waiting < capacity
+marking_leaves_a_position m id waiting positions capacity fresh has = omega (arith, unmarked-with_mark m id fresh, has.left, has.room)
 
 -- there are as many marks as the counts say
 all_by_counts : (old new : Marking) → mark_counts new ≡ mark_counts old → all_marks new ≡ all_marks old
 all_by_counts old new same = omega (arith, sum-map length new.seats, sum-map length old.seats, ap sum same)
 
 -- which then takes it
-pub HasPlaces-marked : (m new : Marking) (id : Id) (waiting places capacity waiting_then capacity_then : ℕ) → mark_of m id ≡ Some false → new ≡ with_mark m id → waiting_then ≡ waiting + 1
-    → capacity ≤ capacity_then → HasPlaces m waiting places capacity → HasPlaces new waiting_then places capacity_then
-HasPlaces-marked m new id waiting places capacity waiting_then capacity_then fresh marked more grown has =
-    subst (λ marks. HasPlaces marks waiting_then places capacity_then) (sym marked) record {
+pub HasPositions-marked : (m new : Marking) (id : Id) (waiting positions capacity waiting_then capacity_then : ℕ) → mark_of m id ≡ Some false → new ≡ with_mark m id → waiting_then ≡ waiting + 1
+    → capacity ≤ capacity_then → HasPositions m waiting positions capacity → HasPositions new waiting_then positions capacity_then
+HasPositions-marked m new id waiting positions capacity waiting_then capacity_then fresh marked more grown has =
+    subst (λ marks. HasPositions marks waiting_then positions capacity_then) (sym marked) record {
       counted = omega (arith, all_by_counts m (with_mark m id) (mark_counts-with_mark m id), has.counted);
       room = omega (arith, has.room, grown);
       left = omega (arith, unmarked-with_mark m id fresh, has.left, more);
@@ -37,18 +37,18 @@ unmarked-few m =
     board true = omega arith
     board false = omega arith
 
--- there are places enough where nothing was found yet
-pub HasPlaces-new : (m : Marking) (places capacity : ℕ) → all_marks m ≤ places → places ≤ capacity → HasPlaces m 0 places capacity
-HasPlaces-new m places capacity enough room = record { counted = enough; room = room; left = omega (arith, unmarked-few m, enough) }
+-- there are positions enough where nothing was found yet
+pub HasPositions-new : (m : Marking) (positions capacity : ℕ) → all_marks m ≤ positions → positions ≤ capacity → HasPositions m 0 positions capacity
+HasPositions-new m positions capacity enough room = record { counted = enough; room = room; left = omega (arith, unmarked-few m, enough) }
 
 -- for as many marks as were made
-pub HasPlaces-made : (m : Marking) (counts : List ℕ) (places capacity : ℕ) → mark_counts m ≡ counts → 1 + sum counts ≤ places → places ≤ capacity → HasPlaces m 0 places capacity
-HasPlaces-made m counts places capacity made enough = HasPlaces-new m places capacity (omega (arith, sum-map length m.seats, ap sum made, enough))
+pub HasPositions-made : (m : Marking) (counts : List ℕ) (positions capacity : ℕ) → mark_counts m ≡ counts → 1 + sum counts ≤ positions → positions ≤ capacity → HasPositions m 0 positions capacity
+HasPositions-made m counts positions capacity made enough = HasPositions-new m positions capacity (omega (arith, sum-map length m.seats, ap sum made, enough))
 
 -- and for as many as before
-pub HasPlaces-anew : (m new : Marking) (found places capacity capacity_then : ℕ) → mark_counts new ≡ mark_counts m → capacity ≤ capacity_then → HasPlaces m found places capacity → HasPlaces new 0 places capacity_then
-HasPlaces-anew m new found places capacity capacity_then same grown has =
-    HasPlaces-new new places capacity_then (omega (arith, all_by_counts m new same, has.counted)) (omega (arith, has.room, grown))
+pub HasPositions-anew : (m new : Marking) (found positions capacity capacity_then : ℕ) → mark_counts new ≡ mark_counts m → capacity ≤ capacity_then → HasPositions m found positions capacity → HasPositions new 0 positions capacity_then
+HasPositions-anew m new found positions capacity capacity_then same grown has =
+    HasPositions-new new positions capacity_then (omega (arith, all_by_counts m new same, has.counted)) (omega (arith, has.room, grown))
 
 -- what is counted of a seat is at most one more with one more mark
 sum-added : (f : List Bool → ℕ) (m : Marking) (number : ℕ) → f (marks_of m number ++ false ∷ []) ≤ f (marks_of m number) + 1 → sum_by f (added m number).seats ≤ sum_by f m.seats + 1
@@ -57,9 +57,9 @@ sum-added f m number one = elim (cases_lt number (length m.seats)) [
   | inr past ↦ omega (arith, ap (sum_by f) (set_past m.seats number (marks_of m number ++ false ∷ []) past))
 ]
 
--- one more place serves one more mark
-pub HasPlaces-added : (m : Marking) (number found places capacity capacity_then : ℕ) → places + 1 ≤ capacity_then → HasPlaces m found places capacity → HasPlaces (added m number) found (places + 1) capacity_then
-HasPlaces-added m number found places capacity capacity_then grown has =
+-- one more position serves one more mark
+pub HasPositions-added : (m : Marking) (number found positions capacity capacity_then : ℕ) → positions + 1 ≤ capacity_then → HasPositions m found positions capacity → HasPositions (added m number) found (positions + 1) capacity_then
+HasPositions-added m number found positions capacity capacity_then grown has =
     let row = marks_of m number in record {
       counted = omega (arith, sum-added length m number (omega (arith, length-append row (false ∷ []))), has.counted);
       room = grown;

@@ -1,12 +1,12 @@
--- The marked fragments of a group, by the bits of its control word, and the first of them from a place on.
+-- The marked fragments of a group, by the bits of its control word, and the first of them from a position on.
 use Rattle.std.proofs.Common.{zero, suc, ◌≡◌, ℕ, ◌+◌, ◌-◌, ◌^◌, ◌<◌, ◌≤◌, Bool, false, eqb, Option, Some, inl, inr, subst, arith}
 use Rattle.std.specs.Int.{bit_at}
 use Rattle.std.specs.List.{find, range_with_len}
 use Rattle.std.proofs.lemmas.Bool.{eqb-false}
 use Rattle.std.proofs.lemmas.Bool.Decides.{eqb_tells, leb_tells}
 use Rattle.std.proofs.lemmas.Nat.Bits.{bit_at-lt, bit_at_above}
-use Rattle.heap_words.specs.Control.{marked_bits_of, next_place_of}
-use Rattle.heap_words.proofs.Grey.{bit_of_part_is_words}
+use Rattle.heap_words.specs.Control.{marked_bits_of, next_position_of}
+use Rattle.heap_words.proofs.Grey.{bit_of_mask_is_words}
 use Rattle.core_machine.proofs.table_lemmas.Bits.{true_or_false}
 
 -- they are among sixteen
@@ -14,14 +14,14 @@ pub marked_few : (word : ℕ) → marked_bits_of word < 2 ^ 16
 marked_few word = omega arith
 
 -- each has its bit
-pub marked_bit_is_words_bit : (word place : ℕ) → place < 16 → bit_at (marked_bits_of word) place ≡ bit_at word (32 + place)
-marked_bit_is_words_bit word place within = bit_of_part_is_words word 32 place within
+pub marked_bit_is_words_bit : (word position : ℕ) → position < 16 → bit_at (marked_bits_of word) position ≡ bit_at word (32 + position)
+marked_bit_is_words_bit word position within = bit_of_mask_is_words word 32 position within
 
--- a place whose bit is set is one of the sixteen
-pub marked_place_within_group : (word place : ℕ) → bit_at (marked_bits_of word) place ≡ 1 → place < 16
-marked_place_within_group word place one = elim (leb_tells (suc place) 16) as (λ _. place < 16) [
+-- a position whose bit is set is one of the sixteen
+pub marked_position_within_group : (word position : ℕ) → bit_at (marked_bits_of word) position ≡ 1 → position < 16
+marked_position_within_group word position one = elim (leb_tells (suc position) 16) as (λ _. position < 16) [
   | inl below ↦ omega (arith, below.1)
-  | inr past ↦ absurd (omega (arith, one, bit_at_above (marked_bits_of word) 16 place (marked_few word) (omega (arith, past.1))))
+  | inr past ↦ absurd (omega (arith, one, bit_at_above (marked_bits_of word) 16 position (marked_few word) (omega (arith, past.1))))
 ]
 
 -- none of the numbers before the one that is found passes
@@ -35,8 +35,8 @@ found_first p a (suc n) x i is from before = elim (true_or_false (p a)) as (λ _
   ]
 ]
 
--- no bit before the place that is found is set
-pub none_marked_before_next : (bits from place i : ℕ) → next_place_of bits from ≡ Some place → from ≤ i → i < place → bit_at bits i ≡ 0
-none_marked_before_next bits from place i is after before =
-    let unset = eqb-false (bit_at bits i) 1 (found_first (λ j. eqb (bit_at bits j) 1) from (16 - from) place i is after before) in
+-- no bit before the position that is found is set
+pub none_marked_before_next : (bits from position i : ℕ) → next_position_of bits from ≡ Some position → from ≤ i → i < position → bit_at bits i ≡ 0
+none_marked_before_next bits from position i is after before =
+    let unset = eqb-false (bit_at bits i) 1 (found_first (λ j. eqb (bit_at bits j) 1) from (16 - from) position i is after before) in
     omega (arith, unset, bit_at-lt bits i)

@@ -1,4 +1,4 @@
-//! The parts of calls on the shared table, made one after another by who holds the seat.
+//! What calls on the shared table are made of, one after another by who holds the seat.
 
 ghost use Rattle.std.specs.Prelude.{◌≡◌, ◌≤◌, []};
 ghost use Rattle.heap_model.specs.declared.command.Command.TheVariants.{New};
@@ -96,7 +96,7 @@ fn make_step(holder: &mut Holder)
     }
 }
 
-/// Makes a record of so many fields for register 1, part by part, or tells that it is refused; none where it may not be begun.
+/// Makes a record of so many fields for register 1, one after another, or tells that it is refused; none where it may not be begun.
 fn make_record(
     holder: &mut Holder,
     hand: &mut Hand,

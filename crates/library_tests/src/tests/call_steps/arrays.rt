@@ -1,10 +1,10 @@
-//! Arrays are made part by part and a cell of one is reached through its spine, and spine words are refused.
+//! Arrays are made by gathering and bearing, and a cell of one is reached through its spine, and spine words are refused.
 
 ghost use Rattle.std.specs.Prelude.{◌≡◌, ◌≤◌, []};
 ghost use Rattle.heap_model.specs.declared.command.Command.TheVariants.{Array};
 ghost use Rattle.heap_model.specs.Needs.{spine_need_of};
-ghost use Rattle.core_machine.specs.declared.place.Making.TheVariants.{Refusing};
-ghost use Rattle.core_machine.specs.declared.place.Place.TheVariants.{Making};
+ghost use Rattle.core_machine.specs.declared.point.Making.TheVariants.{Refusing};
+ghost use Rattle.core_machine.specs.declared.point.Point.TheVariants.{Making};
 
 use super::{has, is_the_first, kept, lone_seat, no_fragments, takes_in_vain, tells};
 use crate::tests::comparing::{holds, same};
@@ -18,7 +18,7 @@ use std::test::Fail;
 
 /// Takes back the words of an array of so many cells, for which fragments were too few.
 fn give_words_back(holder: &mut Holder, budget: Budget, cells: u16)
-    requires refusing { holder.old.seat.place ≡ Making Refusing }
+    requires refusing { holder.old.seat.point ≡ Making Refusing }
     requires words { spine_need_of (Array 1 cells) ≡ budget.words }
     requires room { 2 ≤ holder.old.spare }
 {
@@ -27,7 +27,7 @@ fn give_words_back(holder: &mut Holder, budget: Budget, cells: u16)
     }
 }
 
-/// Makes an array of so many cells for register 1, part by part, or tells that its spine words are refused; none where it may not be begun, or
+/// Makes an array of so many cells for register 1, by gathering and bearing, or tells that its spine words are refused; none where it may not be begun, or
 /// fragments are too few.
 fn make_array(
     holder: &mut Holder,
@@ -83,7 +83,7 @@ fn reach_cell(holder: &mut Holder, cell: u16) -> Result<Option<Place>, Memory> {
     holder.step(&open);
     holder.room(3)?;
     let party = holder.party();
-    let core_machine::Place::Access(Access::LoadingSpot) = party.place() else {
+    let core_machine::Point::Access(Access::LoadingSpot) = party.point() else {
         return Ok(None);
     };
     let Command::Get { i, .. } = party.command() else {

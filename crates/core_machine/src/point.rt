@@ -2,7 +2,7 @@ use heap_model::CollectReply;
 
 /// Where a seat stands in its call: which step is due.
 #[derive(Clone, Copy)]
-pub enum Place {
+pub enum Point {
     /// No call is in flight.
     Idle,
     /// An object is made.

@@ -22,8 +22,8 @@ fn reach_field(holder: &mut Holder, field: u16) -> Result<Option<Place>, Memory>
     }
     holder.begin(get);
     let party = holder.party();
-    let (core_machine::Place::Access(Access::LoadingMeta), Command::Get { i, .. }) = (
-        party.place(),
+    let (core_machine::Point::Access(Access::LoadingMeta), Command::Get { i, .. }) = (
+        party.point(),
         party.command(),
     ) else {
         return Ok(None);
@@ -86,7 +86,7 @@ fn a_long_record_is_made(rt: HostRuntime) -> Result<(), Fail> {
     Ok(())
 }
 
-/// The one free group part has five fragments, and sixteen are needed.
+/// Five fragments of the one group are free, and sixteen are needed.
 #[test]
 fn a_long_record_is_refused(rt: HostRuntime) -> Result<(), Fail> {
     let mut holder = lone_seat(rt.alloc(), 1, 0)?;

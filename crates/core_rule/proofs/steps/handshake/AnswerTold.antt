@@ -7,8 +7,8 @@ use Rattle.core_rule.proofs.Terms.{IsMarked, RootsStand, WhilePolling, IsReached
 use Rattle.heap_model.specs.PhasePlan.{marking as marking_phase}
 use Rattle.heap_model.specs.declared.command.Command.TheVariants as commands
 use Rattle.core_machine.specs.declared.table.address.Address.TheVariants.{Answer}
-use Rattle.core_machine.specs.declared.place.Place.TheVariants as places
-use Rattle.core_machine.specs.declared.place.Polling.TheVariants.{Answering}
+use Rattle.core_machine.specs.declared.point.Point.TheVariants as points
+use Rattle.core_machine.specs.declared.point.Polling.TheVariants.{Answering}
 use Rattle.core_machine.specs.seat.Fits.{SeatIsAnswering as IsAnswering}
 use Rattle.core_machine.specs.seat.Handshake.{roots}
 use Rattle.core_machine.specs.declared.seat.looks.Looks.{Looks}
@@ -19,7 +19,7 @@ use Rattle.core_rule.proofs.lists.Options.{if_some_goes_on}
 use Rattle.core_rule.proofs.marking.Marks.{MarksGoOn, Leaves, leaves_by_same_sources, marking_stands_after_step, reached_after_step}
 use Rattle.core_rule.proofs.entries.AnswerEntries.{graph_same_after_answer, phase_same_after_answer, seat_has_answered_phase, keeps_space_of_answer}
 use Rattle.core_rule.proofs.cycle.AnswerWords.{same_fragments_after_answer, heap_in_cycle_after_answer, leaves_cycle_after_answer}
-use Rattle.core_rule.proofs.entries.AtRest.{seat_fits, in_flight_has_not_left, place_awaits_none}
+use Rattle.core_rule.proofs.entries.AtRest.{seat_fits, in_flight_has_not_left, point_awaits_none}
 use Rattle.core_rule.proofs.cycle.CycleFrames.{seat_in_cycle_stays}
 use Rattle.core_rule.proofs.cycle.FieldFrames.{watched_is_born}
 use Rattle.core_rule.proofs.cycle.CycleHistory.{heap_in_cycle_after_entry, seat_in_cycle_after_other}
@@ -37,7 +37,7 @@ use Rattle.core_rule.proofs.budgets.NoneMade.{MakesNone, no_place_where_none_mad
 use Rattle.core_rule.proofs.spines.SpineFrames.{spine_in_hand_away}
 use Rattle.core_rule.proofs.entries.SeatLists.{own_list_is_all_told}
 
-module _ (heap : Heap) (state : State) (book : Book) (number : ℕ) (rule : Rule heap state book) (here : number < heap.seats) (place : (seat_at state number).place ≡ places.Polling Answering) where
+module _ (heap : Heap) (state : State) (book : Book) (number : ℕ) (rule : Rule heap state book) (here : number < heap.seats) (point : (seat_at state number).point ≡ points.Polling Answering) where
   abbrev pub seat : Seat
   seat = seat_at state number
 
@@ -65,16 +65,16 @@ module _ (heap : Heap) (state : State) (book : Book) (number : ℕ) (rule : Rule
   answering_seat_stands = rule.seats_stand number here
 
   pub answering_is_at_rest : IsAtRest seat
-  answering_is_at_rest = rw place at (seat_fits rule number here).at_place
+  answering_is_at_rest = rw point at (seat_fits rule number here).at_point
 
   pub seat_is_answering : IsAnswering seat × (seat.shaded ≡ length (roots seat))
-  seat_is_answering = rw place at (seat_fits rule number here).answer_at_place
+  seat_is_answering = rw point at (seat_fits rule number here).answer_at_point
 
   pub asks_near_phase : Asks (phase book.history) seat.answered p
-  asks_near_phase = rw place at answering_seat_stands.cycle.answer
+  asks_near_phase = rw point at answering_seat_stands.cycle.answer
 
   pub stays : seat.left ≡ false
-  stays = in_flight_has_not_left rule number here (λ idle. absurd (cc (place, idle)))
+  stays = in_flight_has_not_left rule number here (λ idle. absurd (cc (point, idle)))
 
   pub answering_has_not_left : (graph_seat g number).left ≡ false
   answering_has_not_left = answering_seat_stands.told.counts.leaves ∙ stays
@@ -108,8 +108,8 @@ module _ (heap : Heap) (state : State) (book : Book) (number : ℕ) (rule : Rule
       (heap_in_cycle_after_answer heap state.words number p seat_number_is_small (phase book.history) book.owner book.colour book.fragments rule.heap_stands.cycle)) rule.heap_stands
 
   -- no object is made, and as many spine words are granted
-  pub answering_makes_none : MakesNone seat.place
-  answering_makes_none = rw place tt
+  pub answering_makes_none : MakesNone seat.point
+  answering_makes_none = rw point tt
 
   pub same_grants_in_middle : SameGrants heap book middle
   same_grants_in_middle = same_grants_after_entry heap state.words words same book first nodes (same_told_after_entry book.history first (seat_entry_tells_no_spine first refl refl))
@@ -137,14 +137,14 @@ module _ (heap : Heap) (state : State) (book : Book) (number : ℕ) (rule : Rule
     holding = holding_of_equal_hand book.owner number seat.reserve seat.hand seat.body seat.reserve [] [] refl (sym answering_is_at_rest.empty_hand) (sym answering_is_at_rest.no_body) answering_seat_stands.own.holding;
     stored = is_stored_where_none heap words number (ended looks added) refl;
     together = together_where_empty heap seat.cursor 0 [] [] refl refl;
-    spine = spine_in_hand_away heap state.words words book.spine_owner number seat (ended looks added) (no_place_where_none_made seat seat.place answering_makes_none) (λ has. has) answering_seat_stands.own.spine;
+    spine = spine_in_hand_away heap state.words words book.spine_owner number seat (ended looks added) (no_place_where_none_made seat seat.point answering_makes_none) (λ has. has) answering_seat_stands.own.spine;
   }
 
   pub answering_registers_hold_values : (i : ℕ) → HoldsValue book.made book.owner book.fragments (register_in seat.registers i) (register_value g number i)
-  answering_registers_hold_values i = answering_seat_stands.names.registers i (place_awaits_none seat.place (places.Polling Answering) (target_of seat.command) i place (λ none. none))
+  answering_registers_hold_values i = answering_seat_stands.names.registers i (point_awaits_none seat.point (points.Polling Answering) (target_of seat.command) i point (λ none. none))
 
   pub own_list_in_middle : seat.mine ++ first ∷ [] ≡ filter (is_of number) middle.history
-  own_list_in_middle = own_list_grows number book.history seat.mine first answer_is_own_entry (own_list_is_all_told answering_seat_stands.told.list (rw place at answering_seat_stands.told.list.awaits))
+  own_list_in_middle = own_list_grows number book.history seat.mine first answer_is_own_entry (own_list_is_all_told answering_seat_stands.told.list (rw point at answering_seat_stands.told.list.awaits))
 
   pub other_seat_stands_in_middle : (r : ℕ) → r < heap.seats → r ≢ number → SeatStands heap state.words book r (seat_at state r) → SeatStands heap words middle r (seat_at state r)
   other_seat_stands_in_middle r below apart other =
@@ -165,7 +165,7 @@ module _ (heap : Heap) (state : State) (book : Book) (number : ℕ) (rule : Rule
         reached_on = reached_after_step heap state book rule words later leaves;
         own_on = λ marks answered. record {
           registers = λ r. if_some_goes_on (IsMarked book.colour) (IsReached heap words book.owner book.colour) (λ f marked. inl marked) (register_head (register_in seat.registers r))
-              (subst (WhilePolling (RootsStand book.colour seat)) place (answering_seat_stands.cycle.flight.roots (subst (λ x. x % cycle_phases ≡ marking_phase) (sym answered) marks.phase)) r);
+              (subst (WhilePolling (RootsStand book.colour seat)) point (answering_seat_stands.cycle.flight.roots (subst (λ x. x % cycle_phases ≡ marking_phase) (sym answered) marks.phase)) r);
           call = tt;
         };
       }

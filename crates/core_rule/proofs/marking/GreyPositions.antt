@@ -5,7 +5,7 @@ use Rattle.std.proofs.lemmas.Bool.Decides.{eqb_tells}
 use Rattle.core_rule.proofs.Terms.{is_grey, marked_at, scanned_at, Heap, Control, at, table_length, Colour, White, Grey, Black, Marks, marked_bit, scanned_bit, IsSeen, PassStands}
 use Rattle.heap_words.specs.Control.{lowest_grey_of}
 use Rattle.core_machine.specs.declared.collector.stage.Stage.TheVariants as stages
-use Rattle.core_machine.proofs.table_lemmas.Grey.{grey_place_within_group, found_place_is_grey, none_found_none_grey}
+use Rattle.core_machine.proofs.table_lemmas.Grey.{grey_position_within_group, found_position_is_grey, none_found_none_grey}
 use Rattle.core_rule.proofs.colours.MarkWords.{word_has_marked_bit, word_has_scanned_bit}
 
 -- a fragment that is marked and not scanned is grey
@@ -29,7 +29,7 @@ module _ (heap : Heap) (words : List ℕ) (colour : ℕ → Colour) (group : ℕ
   abbrev word : ℕ
   word = at heap words (Control group)
 
-  -- the word's grey places are those of grey fragments
+  -- the word's grey positions are those of grey fragments
   grey_there : (f : ℕ) → f / 16 ≡ group → is_grey word f ≡ true → colour f ≡ Grey
   grey_there f here is =
       let bits = bits_of_grey (bit_at word (marked_at f)) (bit_at word (scanned_at f)) is in
@@ -42,11 +42,11 @@ module _ (heap : Heap) (words : List ℕ) (colour : ℕ → Colour) (group : ℕ
       rw (marked, scanned) refl
 
   -- the lowest one is
-  pub lowest_is_grey : (place : ℕ) → lowest_grey_of word ≡ Some place → colour (16 * group + place) ≡ Grey
-  lowest_is_grey place is =
-      let within = grey_place_within_group word place is in
-      let rest : (16 * group + place) % 16 ≡ place % 16 = omega arith in
-      grey_there (16 * group + place) (omega (arith, within)) (rw rest (found_place_is_grey word place is))
+  pub lowest_is_grey : (position : ℕ) → lowest_grey_of word ≡ Some position → colour (16 * group + position) ≡ Grey
+  lowest_is_grey position is =
+      let within = grey_position_within_group word position is in
+      let rest : (16 * group + position) % 16 ≡ position % 16 = omega arith in
+      grey_there (16 * group + position) (omega (arith, within)) (rw rest (found_position_is_grey word position is))
 
   -- and where the word has none no fragment of the group is grey
   none_in_group : lowest_grey_of word ≡ None → (f : ℕ) → f / 16 ≡ group → colour f ≢ Grey
