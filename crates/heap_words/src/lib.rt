@@ -15,8 +15,8 @@ mod spot;
 
 pub use cell::Cell;
 pub use control::{
-    ALL_TAKEN, MARKS_CLEARED, all_but, birth_bits, blacken_bit, dead_bits, free_mask, is_clear,
-    lowest_grey, marked_bits, next_position, fragment_bit, shade_bit, taken_count,
+    ALL_TAKEN, MARKS_CLEARED, all_but, birth_bits, blacken_bit, dead_bits, fragment_bit, free_mask,
+    is_clear, lowest_grey, marked_bits, next_position, shade_bit, taken_count,
 };
 pub use group::Group;
 pub use kind::Kind;

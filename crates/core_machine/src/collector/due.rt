@@ -40,7 +40,11 @@ impl<L: CountsEntries> CollectorParty<L> {
             }
             Stage::Copying(stage) => return stage.due(heap),
             Stage::Sweeping { group } => TurningStep::GroupLoad { group },
-            Stage::Examining { group, position, .. } => TurningStep::MetaLoad {
+            Stage::Examining {
+                group,
+                position,
+                ..
+            } => TurningStep::MetaLoad {
                 fragment: GROUP_FRAGMENTS * group + u16::from(position),
             },
             Stage::Freeing { group, dead, .. } => TurningStep::Free { group, bits: dead },

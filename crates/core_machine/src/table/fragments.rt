@@ -6,7 +6,7 @@ ghost use Rattle.core_machine.specs.table.Fragments.{in_group, inside_group, out
 
 use arrayvec::ArrayVec;
 use heap_model::limits::{GROUP_FRAGMENTS, MOST_RESERVE};
-use heap_words::{is_clear, fragment_bit};
+use heap_words::{fragment_bit, is_clear};
 
 /// The most fragments that a seat keeps between two calls, and one more.
 pub const MOST_KEPT: usize = MOST_RESERVE as usize + 1;
