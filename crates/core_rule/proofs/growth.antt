@@ -4,5 +4,3 @@ pub mod Growing
 pub mod SeatGrowth
 pub mod EntryGrowth
 pub mod LaterGraphs
-pub mod AgreeingGraphs
-pub mod OwnGraphs

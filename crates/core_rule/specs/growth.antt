@@ -1,3 +1,2 @@
 -- What is reached as a graph grows.
 pub mod GraphLaws
-pub mod OwnGraphs

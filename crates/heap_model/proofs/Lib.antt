@@ -1,4 +1,5 @@
 pub mod account_lemmas
 pub mod call_lemmas
+pub mod graph_changes
 pub mod graph_lemmas
 pub mod Histories

@@ -10,3 +10,4 @@ pub mod Search
 pub mod Sizes
 pub mod Walks
 pub mod Graph
+pub mod OwnGraphs

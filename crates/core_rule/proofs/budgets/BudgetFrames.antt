@@ -10,7 +10,7 @@ use Rattle.heap_model.specs.account.Sweep.{HasSwung}
 use Rattle.heap_model.proofs.Histories.{total-more}
 use Rattle.core_machine.specs.declared.collector.stage.Stage.TheVariants as stages
 use Rattle.core_machine.proofs.table_lemmas.Free.{sum_of_same_functions, sum_but_one_number}
-use Rattle.core_rule.proofs.graph.SameNodes.{SameShape, same_shape_same_words, same_shape_of_equal}
+use Rattle.heap_model.proofs.graph_changes.Shapes.{SameShape, same_shape_same_words, same_shape_of_equal}
 use Rattle.core_rule.proofs.objects.ObjectFrames.{SameKept}
 use Rattle.core_rule.proofs.budgets.NoneMade.{SameWeights}
 use Rattle.core_rule.proofs.spines.OtherWords.{LeavesSpines}

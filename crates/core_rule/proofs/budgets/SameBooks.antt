@@ -2,7 +2,7 @@
 use Rattle.std.proofs.Common.{◌≡◌, ◌≢◌, ℕ, ◌≤◌, List, refl}
 use Rattle.core_rule.proofs.Terms.{Entry, Heap, graph_of, Book, nodes_in, node_at, tally, Owner, Dead, owner_after}
 use Rattle.core_rule.proofs.owners.Handed.{handed_cases, dead_was_dead_before_handing}
-use Rattle.core_rule.proofs.graph.SameNodes.{SameShape}
+use Rattle.heap_model.proofs.graph_changes.Shapes.{SameShape}
 use Rattle.core_rule.proofs.objects.ObjectFrames.{SameKept}
 use Rattle.core_rule.proofs.budgets.BudgetFrames.{SameDead, SameGrants, SameTold, same_dead_of_itself}
 use Rattle.core_rule.proofs.spines.SpineFrames.{same_kept_of_itself}

@@ -7,7 +7,7 @@ use Rattle.heap_words.specs.declared.spot.Spot.{Spot}
 use Rattle.core_rule.proofs.Terms.{spot_word, Heap, Id, Graph, Node, spine_words_of, Word, at, put, table_length, spine_place, spine_word, fragment_at, id_at, object_head, Objects}
 use Rattle.core_rule.proofs.Terms.{KeptObject, IsKept, name_of, node_at, array_object_word, object_word, Owner, Kept}
 use Rattle.core_rule.proofs.copies.SwungWords.{swung_spines, swung_spine_is_copy, other_spine_stays_at_swing}
-use Rattle.core_rule.proofs.graph.SameNodes.{node_cases}
+use Rattle.heap_model.proofs.graph_changes.Shapes.{node_cases}
 use Rattle.core_rule.proofs.objects.ObjectWords.{object_word_is_spot}
 use Rattle.core_rule.proofs.words.Addresses.{written_word_is_read, other_fragment_word_stays, other_part_stays, same_spines_after_word}
 

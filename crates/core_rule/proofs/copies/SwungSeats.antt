@@ -20,7 +20,8 @@ use Rattle.core_rule.proofs.cycle.CycleHistory.{heap_in_cycle_after_entry, seat_
 use Rattle.core_rule.proofs.entries.AtRest.{seat_fits, in_flight_has_not_left}
 use Rattle.core_rule.proofs.entries.InFlight.{stored_within_body}
 use Rattle.core_rule.proofs.entries.Others.{gathers_right_after_entry}
-use Rattle.core_rule.proofs.frames.SeatFrames.{same_party_of_same_graph, seat_told_same_after_other, kept_stays_with_owners, seat_stands_where_left_alone}
+use Rattle.core_rule.proofs.frames.SeatFrames.{seat_told_same_after_other, kept_stays_with_owners, seat_stands_where_left_alone}
+use Rattle.heap_model.proofs.graph_changes.SameParties.{same_party_of_same_graph}
 use Rattle.core_rule.proofs.hand.HandMoves.{same_hand_of_itself}
 use Rattle.core_rule.proofs.hand.StoredFrames.{is_stored_after_store}
 use Rattle.core_rule.proofs.owners.OwnerLemmas.{own_is_not_kept}

@@ -1,7 +1,7 @@
 -- What the first words of fragments that are to be freed tell stands as before where a step leaves them.
 use Rattle.std.proofs.Common.{◌≡◌, ◌≢◌, ℕ, ◌*◌, ◌==◌, ◌<◌, if◌then◌else◌, List, sym, ap, ◌∙◌, arith, inl, inr}
 use Rattle.core_rule.proofs.Terms.{Heap, Node, Control, Word, spine_words_in, at, put, Owner, Dead, TellsWords, DeadTell, Bits}
-use Rattle.core_rule.proofs.graph.SameNodes.{SameShape, same_shape_same_words}
+use Rattle.heap_model.proofs.graph_changes.Shapes.{SameShape, same_shape_same_words}
 use Rattle.core_rule.proofs.words.Addresses.{word_same_after_control, other_fragment_word_stays}
 use Rattle.std.proofs.lemmas.Bool.{cases_lt}
 use Rattle.std.proofs.lemmas.Bool.Decides.{nat_tests}

@@ -3,7 +3,7 @@ use Rattle.std.specs.Prelude.{if◌then◌else◌}
 use Rattle.std.proofs.Common.{◌≡◌, ◌≢◌, ℕ, ◌==◌, length, refl, sym, arith, List}
 use Rattle.std.proofs.lemmas.Bool.{eq-eqb}
 use Rattle.core_rule.proofs.Terms.{Command, Heap, Point, Seat, Book, Began, HeapStands, SeatStands}
-use Rattle.core_rule.proofs.entries.Others.{seat_is_not_other}
+use Rattle.heap_model.proofs.graph_changes.OwnGraphs.{seat_is_not_other}
 use Rattle.core_rule.proofs.gather.SinceCall.{no_reply_yet}
 
 -- the call of q begins when the history has this length

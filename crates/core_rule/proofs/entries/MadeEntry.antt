@@ -7,7 +7,7 @@ use Rattle.heap_model.specs.Command.{IsCommand}
 use Rattle.heap_model.proofs.Histories.{graph_after-more, total-more}
 use Rattle.core_machine.specs.Moves.{seat_after}
 use Rattle.core_rule.proofs.hand.Bodies.{in_hand_is_body}
-use Rattle.core_rule.proofs.graph.GraphGrowth.{objects_grow_by_add, has_not_left_by_add, sets_same_by_add}
+use Rattle.heap_model.proofs.graph_changes.GraphGrowth.{objects_grow_by_add, has_not_left_by_add, sets_same_by_add}
 use Rattle.core_rule.proofs.entries.Legality.{legal_after_entry}
 use Rattle.core_rule.proofs.entries.OwnEntries.{counts_agree_after_own}
 use Rattle.core_rule.proofs.entries.MakingCommands.{makes_array, size_made, made_reply_adds_object, accepts_made, keeps_space_of_made}

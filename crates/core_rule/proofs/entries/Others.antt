@@ -1,7 +1,6 @@
 -- What stays of a seat's counts when the history grows by an entry that isn't its own.
 use Rattle.std.specs.Prelude.{if◌then◌else◌, sum_by}
 use Rattle.std.proofs.Common.{◌≡◌, ◌≢◌, ℕ, ◌+◌, ◌≤◌, List, [], ◌∷◌, ◌++◌, length, filter, drop, refl, sym, ap, ◌∙◌, false, zero-add, arith, ◌==◌, inl, inr}
-use Rattle.std.proofs.lemmas.Bool.Decides.{eqb_tells}
 use Rattle.std.proofs.lemmas.List.{append-nil}
 use Rattle.std.proofs.lemmas.List.Elements.{filter-append}
 use Rattle.std.proofs.lemmas.List.Sums.{sum_by-append}
@@ -10,13 +9,6 @@ use Rattle.core_rule.proofs.Terms.{Entry, Heap, effect_of, is_of, total_of, is_r
 use Rattle.heap_model.specs.declared.entry.Entry.TheVariants as entries
 use Rattle.heap_model.proofs.Histories.{total_of-more}
 use Rattle.core_rule.proofs.entries.InFlight.{window_grows_by_entry, began_after_entry}
-
--- an entry of a seat is no other's
-pub seat_is_not_other : (number r : ℕ) → r ≢ number → (number == r) ≡ false
-seat_is_not_other number r apart = elim (eqb_tells number r) as (λ _. (number == r) ≡ false) [
-  | inl same ↦ absurd (apart (sym same.1))
-  | inr other ↦ other.0
-]
 
 -- another's entry is no reply to the seat
 pub is_no_reply_to_other : (r : ℕ) (entry : Entry) → is_of r entry ≡ false → is_reply_to r entry ≡ false

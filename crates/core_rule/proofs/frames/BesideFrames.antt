@@ -10,7 +10,8 @@ use Rattle.core_rule.proofs.cycle.CycleFrames.{seat_in_cycle_where_watched}
 use Rattle.core_rule.proofs.cycle.FieldFrames.{watched_is_kept_fragment}
 use Rattle.core_rule.proofs.entries.AtRest.{seat_fits}
 use Rattle.core_rule.proofs.entries.InFlight.{stored_within_body}
-use Rattle.core_rule.proofs.frames.SeatFrames.{same_party_of_same_graph, seat_told_same_without_entry, kept_stays_with_owners, address_at_stays, seat_stands_where_left_alone}
+use Rattle.core_rule.proofs.frames.SeatFrames.{seat_told_same_without_entry, kept_stays_with_owners, address_at_stays, seat_stands_where_left_alone}
+use Rattle.heap_model.proofs.graph_changes.SameParties.{same_party_of_same_graph}
 use Rattle.core_rule.proofs.hand.HandMoves.{same_hand_of_itself}
 use Rattle.core_rule.proofs.marking.KeptSources.{same_sources_of_kept}
 use Rattle.core_rule.proofs.objects.ObjectFrames.{objects_with_same_words}

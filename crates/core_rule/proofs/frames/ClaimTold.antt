@@ -12,7 +12,7 @@ use Rattle.core_rule.proofs.counts.CountMoves.{used_after_claim, used_after_empt
 use Rattle.core_rule.proofs.cycle.CycleHistory.{heap_in_cycle_after_entry, seat_in_cycle_after_own}
 use Rattle.core_rule.proofs.gather.GatherSteps.{equal_by_no_difference, own_claim_gathers_right, own_empty_claim_gathers_right, other_claim_gathers_right, other_empty_claim_gathers_right}
 use Rattle.core_rule.proofs.entries.InFlight.{began_after_entry}
-use Rattle.core_rule.proofs.entries.Others.{seat_is_not_other}
+use Rattle.heap_model.proofs.graph_changes.OwnGraphs.{seat_is_not_other}
 use Rattle.core_rule.proofs.entries.OwnEntries.{counts_agree_after_own, counts_agree_without_entry, own_list_grows}
 use Rattle.core_rule.proofs.frames.SeatFrames.{SameTold, seat_told_same_without_entry, seat_told_same_after_other}
 use Rattle.core_rule.proofs.budgets.BudgetFrames as budgets

@@ -7,8 +7,10 @@ use Rattle.core_machine.specs.declared.table.address.Address.TheVariants.{Phase}
 use Rattle.core_rule.proofs.words.Addresses.{at-put_apart}
 use Rattle.core_rule.proofs.words.ControlLemmas.{bits_where_controls_same}
 use Rattle.core_rule.proofs.objects.ObjectFrames.{objects_with_same_words}
-use Rattle.core_rule.proofs.graph.SameNodes.{SameNodes, are_made_still, objects_with_same_nodes, same_shape_of_made}
-use Rattle.core_rule.proofs.frames.SeatFrames.{with_entry, seat_stands_with_entry, same_party_of_same_graph}
+use Rattle.core_rule.proofs.graph.SameNodes.{are_made_still, objects_with_same_nodes, same_shape_of_made}
+use Rattle.heap_model.proofs.graph_changes.Shapes.{SameNodes}
+use Rattle.core_rule.proofs.frames.SeatFrames.{with_entry, seat_stands_with_entry}
+use Rattle.heap_model.proofs.graph_changes.SameParties.{same_party_of_same_graph}
 use Rattle.core_rule.proofs.budgets.BudgetFrames.{SameGrants, SameTold}
 use Rattle.core_rule.proofs.budgets.SameBooks.{same_grants_with_history}
 use Rattle.core_rule.proofs.spines.OtherWords.{LeavesPlaces, leaves_places_of_spines, leaves_spines_of_itself, leaves_spines_after_phase}

@@ -14,7 +14,8 @@ use Rattle.core_rule.proofs.cycle.MakingCycle.{was_borne_before, seat_in_cycle_a
 use Rattle.core_rule.proofs.entries.AtRest.{seat_fits}
 use Rattle.core_rule.proofs.entries.InFlight.{tried_within_groups}
 use Rattle.core_rule.proofs.entries.Legality.{legal_after_entry, keeps_space_of_frees}
-use Rattle.core_rule.proofs.frames.SeatFrames.{KeptStays, same_party_of_same_graph, seat_told_same_after_other, kept_stays_with_owners, address_at_stays, seat_stands_where_left_alone}
+use Rattle.core_rule.proofs.frames.SeatFrames.{KeptStays, seat_told_same_after_other, kept_stays_with_owners, address_at_stays, seat_stands_where_left_alone}
+use Rattle.heap_model.proofs.graph_changes.SameParties.{same_party_of_same_graph}
 use Rattle.core_rule.proofs.gather.FreeGathers.{gathers_right_after_freeing}
 use Rattle.core_rule.proofs.hand.StoredFrames.{is_stored_after_control}
 use Rattle.core_rule.proofs.objects.ObjectFrames.{SameKept, objects_with_same_kept, objects_after_control}

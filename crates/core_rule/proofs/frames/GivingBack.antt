@@ -22,9 +22,10 @@ use Rattle.core_rule.proofs.budgets.SameBooks.{same_grants_with_owners, same_dea
 use Rattle.core_rule.proofs.entries.ToldSpines.{seat_entry_tells_no_spine, same_told_after_entry}
 use Rattle.core_rule.proofs.spines.OtherWords.{LeavesSpines, leaves_spines_after_control}
 use Rattle.core_rule.proofs.spines.SpineFrames.{same_shape_of_itself, spines_stand_with_budget, spine_is_stored_still, spines_left_of_itself, places_stay_where_same}
-use Rattle.core_rule.proofs.entries.Others.{seat_is_not_other}
+use Rattle.heap_model.proofs.graph_changes.OwnGraphs.{seat_is_not_other}
 use Rattle.core_rule.proofs.owners.OwnerFrames.{owners_stand_after_handing}
-use Rattle.core_rule.proofs.frames.SeatFrames.{KeptStays, same_party_of_same_graph, seat_told_same_after_other, kept_stays_with_owners, address_at_stays, seat_stands_where_left_alone}
+use Rattle.core_rule.proofs.frames.SeatFrames.{KeptStays, seat_told_same_after_other, kept_stays_with_owners, address_at_stays, seat_stands_where_left_alone}
+use Rattle.heap_model.proofs.graph_changes.SameParties.{same_party_of_same_graph}
 use Rattle.core_rule.proofs.entries.SpaceEntries.{graph_same_after_gives, legal_after_gives}
 use Rattle.core_rule.proofs.hand.StoredFrames.{is_stored_after_control}
 use Rattle.core_rule.proofs.cycle.Unwatched.{IsApart}

@@ -9,7 +9,7 @@ use Rattle.core_rule.proofs.entries.ToldSpines.{seat_entry_tells_no_spine, same_
 use Rattle.core_rule.proofs.cycle.CycleHistory.{heap_in_cycle_after_entry, seat_in_cycle_after_other}
 use Rattle.core_rule.proofs.frames.EntryFrames.{UsesNothing, heap_stands_after_entry, other_seat_stands_after_entry, same_grants_after_entry, same_fragments_of_itself}
 use Rattle.core_rule.proofs.entries.Legality.{legal_after_entry}
-use Rattle.core_rule.proofs.graph.SameNodes.{SameNodes}
+use Rattle.heap_model.proofs.graph_changes.Shapes.{SameNodes}
 use Rattle.core_rule.proofs.budgets.BudgetFrames.{SameGrants}
 use Rattle.core_rule.proofs.frames.SeatFrames.{with_entry}
 

@@ -1,42 +1,22 @@
 -- What stays of a seat at another's step: all of it, where that leaves what the seat has, what it names and what is told of it.
 use Rattle.std.proofs.Common.{◌≡◌, ℕ, ◌<◌, false, List, [], ◌∷◌, ◌++◌, length, filter, drop, get_or, refl, sym, ap, ◌∙◌, subst, arith}
 use Rattle.heap_words.specs.declared.spot.Spot.{Spot}
-use Rattle.core_rule.proofs.Terms.{Entry, Heap, Id, Value, graph_of, is_of, graph_seat, register_value, phase, last_answer, has_left, spent_of, taken_of, Graph, Point, Register, unset}
+use Rattle.core_rule.proofs.Terms.{Entry, Heap, Id, graph_of, is_of, register_value, phase, last_answer, has_left, spent_of, taken_of, Graph, Point, Register}
 use Rattle.core_rule.proofs.Terms.{Seat, Book, SeatInCycle, IsStored, GathersRight, Began, UsedStands, node_at, IsKept, Owner, SpineOwner, Registers, AddressStands, NamesStand}
 use Rattle.core_rule.proofs.Terms.{SeatStands, WayStands}
 use Rattle.heap_model.specs.declared.id.Value.TheVariants as values
-use Rattle.heap_model.specs.graph.Objects.{GraphSeat}
 use Rattle.core_machine.specs.declared.seat.register.Register.TheVariants as registers
 use Rattle.core_rule.specs.graph.Registers as regs
 use Rattle.core_rule.proofs.entries.Others.{own_entries_stay_by_other, total_of_stays_by_other, began_after_other_entry, gathers_right_after_entry}
 use Rattle.core_rule.proofs.entries.SeatLists.{own_list_stays, NamesStay, holds_value_still}
 use Rattle.core_rule.proofs.hand.HandMoves.{SameHand, same_hand_of_itself, holding_stays}
-use Rattle.core_rule.proofs.graph.SameNodes.{SameShape, same_shape_of_equal}
+use Rattle.heap_model.proofs.graph_changes.Shapes.{SameShape, same_shape_of_equal}
 use Rattle.core_rule.proofs.objects.ObjectFrames.{SameKept, names_kept_by_same_kept}
 use Rattle.core_rule.proofs.spines.SpineFrames.{SpineIsStored, spine_is_stored_by_words, SpinesLeft, spines_left_of_itself, spine_in_hand_stays, PlacesStay, places_stay_where_same, address_stands_still, address_stands_with_words}
 use Rattle.core_rule.proofs.budgets.UsedWords.{used_stands_after_other_entry}
 use Rattle.core_rule.proofs.ways.WayFrames.{ObjectStays, way_stands_still}
 use Rattle.core_rule.proofs.words.Addresses.{SameSpines}
-use Rattle.heap_model.specs.declared.graph.cell.Cell.{Cell}
-
--- the graph's party has the same registers, and as many objects and sets, and has left where it had
-pub record SameParty (g now : Graph) (r : ℕ) : Type 0 where
-  pub registers : (graph_seat now r).registers ≡ (graph_seat g r).registers
-  pub objects : length (graph_seat now r).objects ≡ length (graph_seat g r).objects
-  pub sets : (graph_seat now r).sets ≡ (graph_seat g r).sets
-  pub left : (graph_seat now r).left ≡ (graph_seat g r).left
-
--- so it is where what the graph has of it is the same
-pub same_party_of_same_graph : (g now : Graph) (r : ℕ) → graph_seat now r ≡ graph_seat g r → SameParty g now r
-same_party_of_same_graph g now r same = record {
-  registers = ap (λ (p : GraphSeat). p.registers) same;
-  objects = ap (λ (p : GraphSeat). length p.objects) same;
-  sets = ap (λ (p : GraphSeat). p.sets) same;
-  left = ap (λ (p : GraphSeat). p.left) same;
-}
-
-register_stays : (g now : Graph) (r : ℕ) → SameParty g now r → (i : ℕ) → register_value now r i ≡ register_value g r i
-register_stays g now r same i = ap (λ (rs : List Cell). (get_or rs i unset).value) same.registers
+use Rattle.heap_model.proofs.graph_changes.SameParties.{SameParty, register_stays}
 
 -- the later history tells no more of the seat
 pub record SameTold (r : ℕ) (history later : List Entry) : Type 0 where

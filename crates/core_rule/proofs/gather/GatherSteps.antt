@@ -8,7 +8,7 @@ use Rattle.core_rule.proofs.counts.EffectSums.{given_up_stays_by_takes, given_up
 use Rattle.core_rule.proofs.counts.FreeMoves.{free_in_passed_grows_within}
 use Rattle.core_rule.proofs.gather.GatherMoves.{gathers_right_after_claim, gathers_right_after_others_claim, gathers_right_after_giving, gathers_right_after_others_giving}
 use Rattle.core_rule.proofs.entries.InFlight.{window_grows_by_entry}
-use Rattle.core_rule.proofs.entries.Others.{seat_is_not_other}
+use Rattle.heap_model.proofs.graph_changes.OwnGraphs.{seat_is_not_other}
 
 -- sums that differ by nothing
 pub equal_by_no_difference : (n m k : ℕ) → n ≡ m + k → k ≡ 0 → n ≡ m

@@ -11,7 +11,8 @@ use Rattle.heap_model.specs.account.Refusals.{ShowsSpace, ShowsSpine}
 use Rattle.heap_model.specs.graph.Replies.{Says, Gets, Sets, Compares, length_reply}
 use Rattle.core_machine.specs.declared.seat.register.Register.TheVariants as registers
 use Rattle.core_machine.specs.seat.Local.{answer_of, local_reply_of, local_registers}
-use Rattle.core_rule.proofs.graph.PutRegister.{OnlyRegisters, put_changes_only_registers, only_registers_of_itself, holds_value_after_put}
+use Rattle.core_rule.proofs.graph.PutRegister.{holds_value_after_put}
+use Rattle.heap_model.proofs.graph_changes.PutRegister.{OnlyRegisters, put_changes_only_registers, only_registers_of_itself}
 use Rattle.core_rule.proofs.graph.SameValues.{compares_as_held, held_value_targets_none}
 use Rattle.heap_model.specs.graph.Graph.{unseen}
 use Rattle.heap_model.specs.declared.graph.cell.Cell.{Cell}

@@ -15,7 +15,7 @@ use Rattle.heap_model.specs.graph.Replies.{Says, Gets}
 use Rattle.core_rule.proofs.growth.Growing.{CameFrom, was_held, was_read, IsSameSize, GrowsFrom}
 use Rattle.core_rule.proofs.growth.RegisterIds.{RegisterHolds}
 use Rattle.core_rule.proofs.growth.SeatGrowth.{set_cases, same_size_unchanged, grows_by_nothing, grows_by_put, grows_by_leave, grows_by_add}
-use Rattle.core_rule.proofs.graph.CellSet.{Sets, write_sets_cell}
+use Rattle.heap_model.proofs.graph_changes.CellSet.{Sets, write_sets_cell}
 use Rattle.core_rule.proofs.graph.Numbering.{same_id_test_decides}
 use Rattle.heap_model.specs.graph.Graph.{unseen}
 use Rattle.heap_model.specs.graph.Objects.{register_cell}

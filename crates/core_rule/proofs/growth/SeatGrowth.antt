@@ -9,10 +9,10 @@ use Rattle.heap_model.specs.Limits.{register_count}
 use Rattle.heap_model.specs.graph.Graph.{GraphSeat, unseen}
 use Rattle.core_rule.proofs.growth.Growing.{CameFrom, was_held, was_unmade, IsSameSize, GrowsFrom}
 use Rattle.core_rule.proofs.growth.RegisterIds.{RegisterHolds}
-use Rattle.core_rule.proofs.graph.GraphGrowth.{grown_party, added_node_is_object, new_id_has_no_node, other_nodes_stay_by_add}
-use Rattle.core_rule.proofs.graph.GraphSeats.{party_with_seat_is_new, other_party_stays, nodes_stay_with_seat}
+use Rattle.heap_model.proofs.graph_changes.GraphGrowth.{grown_party, added_node_is_object, new_id_has_no_node, other_nodes_stay_by_add}
+use Rattle.heap_model.proofs.graph_changes.GraphSeats.{party_with_seat_is_new, other_party_stays, nodes_stay_with_seat}
 use Rattle.core_rule.proofs.graph.IdsGrowth.{without_node_is_not_made}
-use Rattle.core_rule.proofs.graph.LeftSeats.{empty_register_is_nil}
+use Rattle.heap_model.proofs.graph_changes.LeftSeats.{empty_register_is_nil}
 use Rattle.core_rule.proofs.graph.Numbering.{same_id_test_decides}
 use Rattle.heap_model.specs.declared.graph.cell.Cell.{Cell}
 

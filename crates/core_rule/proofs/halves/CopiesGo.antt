@@ -9,7 +9,7 @@ use Rattle.core_machine.specs.declared.collector.stage.Copying.{Copying}
 use Rattle.core_machine.specs.declared.collector.stage.Copying.TheVariants as copying
 use Rattle.core_machine.specs.declared.collector.stage.Stage.TheVariants as stages
 use Rattle.core_machine.specs.declared.collector.stage.Visit.{Visit}
-use Rattle.core_rule.proofs.graph.SameNodes.{SameShape, same_shape_same_words}
+use Rattle.heap_model.proofs.graph_changes.Shapes.{SameShape, same_shape_same_words}
 
 -- the object of this number is kept, with its name, its fragments, its spine and its shape
 pub record HeadStays (nodes now_nodes : ℕ → Node) (made now_made : List Id) (now_owner : ℕ → Owner) (fragments now_fragments : ℕ → List ℕ) (spines now_spines : ℕ → Spot) (f i : ℕ) : Type 0 where

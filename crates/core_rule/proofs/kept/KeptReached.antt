@@ -13,7 +13,7 @@ use Rattle.core_machine.specs.declared.point.Access.TheVariants.{Naming}
 use Rattle.core_machine.specs.declared.point.Point.TheVariants as call_points
 use Rattle.core_machine.specs.declared.seat.register.Register.TheVariants as registers
 use Rattle.core_rule.proofs.sweep_exact.GoneSeats.{gone_stays_after_history, gone_at_opening}
-use Rattle.core_rule.proofs.graph.LeftSeats.{left_registers_are_nil}
+use Rattle.heap_model.proofs.graph_changes.LeftSeats.{left_registers_are_nil}
 use Rattle.core_rule.proofs.graph.Numbering.{id_at_own_number}
 use Rattle.core_rule.proofs.growth.RegisterIds.{RegisterHolds, root_is_in_register}
 

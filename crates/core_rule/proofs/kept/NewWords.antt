@@ -10,9 +10,9 @@ use Rattle.heap_model.specs.declared.graph.cell.Cell.{Cell}
 use Rattle.heap_model.specs.declared.reply.Reply.TheVariants as replies
 use Rattle.heap_model.specs.graph.Graph.{GraphSeat}
 use Rattle.heap_model.specs.graph.Replies.{Says}
-use Rattle.core_rule.proofs.graph.CellSet.{write_sets_cell}
-use Rattle.core_rule.proofs.graph.GraphGrowth.{added_node_is_object, other_nodes_stay_by_add}
-use Rattle.core_rule.proofs.graph.GraphSeats.{nodes_stay_with_seat}
+use Rattle.heap_model.proofs.graph_changes.CellSet.{write_sets_cell}
+use Rattle.heap_model.proofs.graph_changes.GraphGrowth.{added_node_is_object, other_nodes_stay_by_add}
+use Rattle.heap_model.proofs.graph_changes.GraphSeats.{nodes_stay_with_seat}
 use Rattle.core_rule.proofs.graph.Numbering.{same_id_test_decides}
 use Rattle.core_rule.proofs.growth.EntryGrowth.{grows_by_entry, set_finds_its_cell}
 use Rattle.core_rule.proofs.growth.Growing.{GrowsFrom}

@@ -16,7 +16,7 @@ use Rattle.core_machine.specs.seat.Handshake.{answer_next, polling_over}
 use Rattle.core_machine.specs.seat.HandshakeMoves.{phase_told}
 use Rattle.core_machine.specs.seat.Looks.{forgotten}
 use Rattle.core_rule.specs.looks.Looks.{LooksStand}
-use Rattle.core_rule.proofs.entries.Others.{seat_is_not_other}
+use Rattle.heap_model.proofs.graph_changes.OwnGraphs.{seat_is_not_other}
 use Rattle.core_rule.proofs.looks.Finding.{looks_stand_after_seen}
 use Rattle.core_rule.proofs.looks.Ways.{StaysFound, IsNote, elsewhere_is_no_note, stays_found_after_length}
 use Rattle.core_rule.proofs.looks.Growth.{NoneOf, IsElsewhere, looks_stand_without_reply, looks_stand_elsewhere, looks_stand_after_reply, looks_stand_while_awaiting}

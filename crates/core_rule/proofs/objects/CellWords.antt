@@ -15,9 +15,9 @@ use Rattle.core_rule.proofs.Terms.{Id, Value, with_cell, Node, Register, stamp_o
 use Rattle.core_rule.proofs.Terms.{value_word, field_word, is_cell, record_object_word, array_object_word, object_word, Owner, HoldsValue, row_in, field_part}
 use Rattle.heap_model.specs.declared.id.Value.TheVariants as values
 use Rattle.core_machine.specs.declared.seat.register.Register.TheVariants as registers
-use Rattle.core_rule.proofs.graph.SameNodes.{node_cases}
+use Rattle.heap_model.proofs.graph_changes.Shapes.{node_cases}
 use Rattle.core_rule.proofs.objects.ObjectWords.{object_word_is_cell}
-use Rattle.core_rule.proofs.graph.CellSet.{slice_get-set_same, slice_get-set_other}
+use Rattle.heap_model.proofs.graph_changes.CellSet.{slice_get-set_same, slice_get-set_other}
 
 -- where a cell stands
 stands_cell : (k part : ℕ) → is_cell k part ≡ true → (1 ≤ part) × (2 ≤ 3 * k + part)

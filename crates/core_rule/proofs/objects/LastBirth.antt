@@ -5,7 +5,7 @@ use Rattle.core_rule.proofs.Terms.{Kept}
 use Rattle.heap_model.specs.declared.id.Value.TheVariants as values
 use Rattle.core_machine.specs.declared.seat.register.Register.TheVariants as registers
 use Rattle.core_rule.specs.graph.Registers as regs
-use Rattle.core_rule.proofs.graph.GraphGrowth.{new_id_has_no_node, added_node_is_object, other_nodes_stay_by_add, target_holds_new_object, other_registers_stay_by_add}
+use Rattle.heap_model.proofs.graph_changes.GraphGrowth.{new_id_has_no_node, added_node_is_object, other_nodes_stay_by_add, target_holds_new_object, other_registers_stay_by_add}
 use Rattle.core_rule.proofs.graph.IdsGrowth.{OneMore}
 use Rattle.core_rule.proofs.owners.Keeping.{kept_by, with_object, new_object_has_body}
 use Rattle.core_rule.proofs.objects.NamesGrowth.{new_object_is_kept, names_stay_after_growth}

@@ -7,7 +7,7 @@ use Rattle.core_rule.proofs.Terms.{Id, Value, Graph, Node, tally, fragment_at, o
 use Rattle.core_rule.proofs.Terms.{node_at, Owner, Kept}
 use Rattle.heap_model.specs.declared.id.Value.TheVariants as values
 use Rattle.core_rule.proofs.graph.IdsGrowth.{OneMore, made_nodes_stay}
-use Rattle.core_rule.proofs.graph.SameNodes.{same_shape_of_equal}
+use Rattle.heap_model.proofs.graph_changes.Shapes.{same_shape_of_equal}
 use Rattle.core_rule.proofs.objects.ObjectWords.{object_words_same_by_cells}
 use Rattle.core_rule.proofs.owners.Keeping.{kept_by, with_object, old_object_keeps_fragments, new_object_has_body, kept_by_others_stays, kept_by_others_was, body_fragment_is_kept_at_position}
 use Rattle.core_rule.proofs.graph.Numbering.{id_stays_by_append, number_stays_by_append}

@@ -8,7 +8,7 @@ use Rattle.heap_words.specs.Name.{name_word}
 use Rattle.core_rule.proofs.Terms.{spot_word, Id, Node, record_meta, link_after, record_word_of, array_meta, sentinel_word_of, row_of, part_of, value_word, field_word, is_cell}
 use Rattle.core_rule.proofs.Terms.{record_object_word, array_object_word, object_word, row_in, field_part}
 use Rattle.heap_model.specs.declared.graph.cell.Cell.{Cell}
-use Rattle.core_rule.proofs.graph.SameNodes.{node_cases}
+use Rattle.heap_model.proofs.graph_changes.Shapes.{node_cases}
 use Rattle.core_rule.proofs.ways.Rows.{field_of_row_and_part, row_part_is_cell, cell_of_row_and_part}
 
 module _ (head : Id → ℕ) (name : Name) (spine : Spot) (fragments : List ℕ) where

@@ -7,8 +7,9 @@ use Rattle.heap_model.specs.declared.graph.cell.Cell.{Cell}
 use Rattle.core_rule.proofs.Terms.{Heap, Id, with_cell, node, Graph, Node, Word, at, put, table_length, fragment_at, id_at, object_head, object_number, AreMade, IsKept, IsSized}
 use Rattle.core_rule.proofs.Terms.{NamesKept, KeptObject, Objects, node_in, node_at, cells_at, name_of, value_word, object_word, Owner, Kept, row_in, field_part}
 use Rattle.core_rule.proofs.words.Addresses.{control_same_after_word, other_fragment_word_stays, other_part_stays, written_word_is_read, same_spines_after_word}
-use Rattle.core_rule.proofs.graph.CellSet.{Sets, slice_get-set_same, slice_get-set_other}
-use Rattle.core_rule.proofs.graph.SameNodes.{made_has_node, SameShape, same_shape_of_equal, same_shape_same_words, same_shape_same_fragments}
+use Rattle.heap_model.proofs.graph_changes.CellSet.{Sets, slice_get-set_same, slice_get-set_other}
+use Rattle.core_rule.proofs.graph.SameNodes.{made_has_node}
+use Rattle.heap_model.proofs.graph_changes.Shapes.{SameShape, same_shape_of_equal, same_shape_same_words, same_shape_same_fragments}
 use Rattle.core_rule.proofs.objects.CellWords.{set_cell_word_is_value, other_word_stays_with_cell}
 use Rattle.core_rule.proofs.objects.ObjectWords.{object_word_is_cell}
 use Rattle.core_rule.proofs.ways.Rows.{field_part_is_small, field_row_within_fragments}

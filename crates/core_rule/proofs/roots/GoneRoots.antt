@@ -6,7 +6,7 @@ use Rattle.core_machine.specs.declared.point.Point.TheVariants as points
 use Rattle.core_machine.specs.declared.seat.register.Register.TheVariants as registers
 use Rattle.core_rule.specs.roots.Roots.{OfRoots}
 use Rattle.core_rule.proofs.entries.AtRest.{seat_fits}
-use Rattle.core_rule.proofs.graph.LeftSeats.{left_registers_are_nil}
+use Rattle.heap_model.proofs.graph_changes.LeftSeats.{left_registers_are_nil}
 
 pub roots_hold_when_gone : (heap : Heap) (state : State) (book : Book) (number : ℕ) (rule : Rule heap state book) (here : number < heap.seats) → (seat_at state number).left ≡ true
     → (P : ℕ → Type 0) → OfRoots P (seat_at state number)

@@ -13,7 +13,7 @@ use Rattle.heap_model.specs.declared.graph.cell.Cell.{Cell}
 use Rattle.heap_model.specs.graph.Graph.{GraphSeat}
 use Rattle.core_machine.specs.declared.table.address.Address.{Address}
 use Rattle.core_machine.specs.machine.Opening.{board, board_name, opening_word}
-use Rattle.core_rule.proofs.graph.GraphRegisters.{opening_graph_has_opening_seats}
+use Rattle.heap_model.proofs.graph_changes.GraphRegisters.{opening_graph_has_opening_seats}
 use Rattle.core_rule.proofs.objects.Newborn.{object_word_is_fresh}
 use Rattle.core_rule.proofs.objects.ObjectsGrowth.{fresh_cell_is_unset}
 use Rattle.core_rule.proofs.runs.OpeningOwners.{opening_owner, opening_owner_cases, beyond_board_is_free, board_fragment_is_number, board_bit_is_taken_bit, board_bit_is_born_bit, board_bit_is_unmarked}

@@ -19,7 +19,7 @@ use Rattle.core_rule.specs.graph.Registers as regs
 use Rattle.core_rule.specs.looks.Looks.{LooksStand}
 use Rattle.core_rule.proofs.hand.EmptyHand.{together_where_empty}
 use Rattle.core_rule.proofs.gather.GatherMoves.{gathers_right_untried}
-use Rattle.core_rule.proofs.graph.GraphRegisters.{opening_graph_has_opening_seats}
+use Rattle.heap_model.proofs.graph_changes.GraphRegisters.{opening_graph_has_opening_seats}
 use Rattle.core_rule.proofs.runs.OpeningObjects.{opening_made, opening_fragments, opening_are_made, opening_bits, opening_marks, opening_objects}
 pub use Rattle.core_rule.proofs.runs.OpeningSpines.{opening_book}
 use Rattle.core_rule.proofs.runs.OpeningSpines.{opening_spine_in_hand, opening_spines_stand, opening_budgets_stand, opening_halves_stand}

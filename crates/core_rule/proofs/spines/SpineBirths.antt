@@ -6,7 +6,7 @@ use Rattle.std.proofs.lemmas.Bool.Decides.{eqb_tells, nat_tests}
 use Rattle.heap_words.specs.declared.spot.Spot.{Spot}
 use Rattle.core_rule.proofs.Terms.{Heap, Node, spine_words_of, Seat, spine_need, tally, fragment_at, IsKept, Owner, Kept, SpineOwner, Open, Placed, Spined, Gone, SpinesStand}
 use Rattle.core_rule.proofs.Terms.{SpineInHand, HasPlace, IsWordOf}
-use Rattle.core_rule.proofs.graph.SameNodes.{SameShape, same_shape_same_words}
+use Rattle.heap_model.proofs.graph_changes.Shapes.{SameShape, same_shape_same_words}
 use Rattle.core_rule.proofs.objects.ObjectsGrowth.{with_spine, new_spine_is_spine, old_spine_stays}
 use Rattle.core_rule.proofs.owners.Keeping.{kept_by, with_object, new_object_has_body, old_object_keeps_fragments, kept_by_others_was, kept_by_others_stays}
 use Rattle.core_rule.proofs.spines.OtherWords.{LeavesSpines}

@@ -4,7 +4,7 @@ use Rattle.heap_words.specs.declared.spot.Spot.{Spot}
 use Rattle.core_rule.proofs.Terms.{Heap, Id, Node, spine_words_of, Point, Seat, spine_need, at, spine_place, spine_word, fragment_at, IsKept, Owner, Kept, SpineOwner, Placed, Gone}
 use Rattle.core_rule.proofs.Terms.{AddressStands, IsLeftReplica, SpinesStand, SpineInHand, HasPlace, WayStands}
 use Rattle.core_machine.specs.declared.table.address.Address.TheVariants as addresses
-use Rattle.core_rule.proofs.graph.SameNodes.{SameShape, same_shape_same_words, same_shape_of_equal}
+use Rattle.heap_model.proofs.graph_changes.Shapes.{SameShape, same_shape_same_words, same_shape_of_equal}
 use Rattle.core_rule.proofs.objects.ObjectFrames.{SameKept}
 use Rattle.core_rule.proofs.spines.OtherWords.{LeavesPlaces, LeavesSpines, leaves_places_of_spines}
 use Rattle.core_rule.proofs.ways.WayFrames.{ObjectStays}

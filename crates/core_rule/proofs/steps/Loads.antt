@@ -24,7 +24,7 @@ use Rattle.core_rule.proofs.spines.SpineFrames.{spine_in_hand_away}
 use Rattle.core_rule.proofs.cycle.CycleHistory.{seat_in_cycle_after_own}
 use Rattle.core_rule.proofs.entries.Others.{gathers_right_after_entry}
 use Rattle.core_rule.proofs.entries.OwnEntries.{counts_agree_after_own, counts_agree_without_entry}
-use Rattle.core_rule.proofs.graph.PutRegister.{OnlyRegisters}
+use Rattle.heap_model.proofs.graph_changes.PutRegister.{OnlyRegisters}
 use Rattle.core_rule.proofs.frames.Replying.{effect_summand_is_none, began_after_reply}
 use Rattle.core_rule.proofs.steps.ReplyStep.{graph_replies_of_registers, keeps_in_cycle_when_told}
 use Rattle.core_rule.proofs.entries.Legality.{legal_after_entry}

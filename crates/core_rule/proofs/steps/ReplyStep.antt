@@ -16,14 +16,16 @@ use Rattle.core_rule.proofs.cycle.CycleFrames.{LeavesCycle, seat_in_cycle_stays}
 use Rattle.core_rule.proofs.cycle.FieldFrames.{watched_is_born}
 use Rattle.core_rule.proofs.cycle.CycleHistory.{heap_in_cycle_after_entry, seat_in_cycle_after_other}
 use Rattle.core_rule.proofs.hand.EmptyHand.{together_where_empty, is_stored_where_none, gathers_right_unbegun, holding_of_equal_hand, bare_unborn_holds_reserve}
-use Rattle.core_rule.proofs.graph.GraphSeats.{SeatChanges}
+use Rattle.heap_model.proofs.graph_changes.GraphSeats.{SeatChanges}
 use Rattle.core_rule.proofs.entries.InFlight.{began_idle_after_reply, stored_within_body}
-use Rattle.core_rule.proofs.entries.Others.{seat_is_not_other}
+use Rattle.heap_model.proofs.graph_changes.OwnGraphs.{seat_is_not_other}
 use Rattle.core_rule.proofs.entries.OwnEntries.{own_list_grows}
 use Rattle.core_rule.proofs.entries.ReplyEntries.{said_is_own, used_after_said, taken_stays_by_said, spent_stays_by_said}
-use Rattle.core_rule.proofs.graph.SameNodes.{SameShape, are_made_still, objects_with_same_nodes, same_shape_of_made}
+use Rattle.core_rule.proofs.graph.SameNodes.{are_made_still, objects_with_same_nodes, same_shape_of_made}
+use Rattle.heap_model.proofs.graph_changes.Shapes.{SameShape}
 use Rattle.core_rule.proofs.book.BookGoing.{book_goes_on_with_history}
-use Rattle.core_rule.proofs.frames.SeatFrames.{SameParty, with_entry, seat_stands_with_entry, same_party_of_same_graph}
+use Rattle.core_rule.proofs.frames.SeatFrames.{with_entry, seat_stands_with_entry}
+use Rattle.heap_model.proofs.graph_changes.SameParties.{SameParty, same_party_of_same_graph}
 use Rattle.core_rule.proofs.hand.StoredFrames.{SameUnkept, is_stored_still}
 use Rattle.core_rule.proofs.budgets.SameBooks.{same_grants_with_history}
 use Rattle.core_rule.proofs.entries.ToldSpines.{seat_entry_tells_no_spine, same_told_after_entry}

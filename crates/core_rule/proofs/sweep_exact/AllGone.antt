@@ -13,7 +13,7 @@ use Rattle.core_machine.proofs.table_lemmas.Free.{sum_of_nothing_is_zero}
 use Rattle.core_rule.proofs.footprint.Bounds.{brings_stays_by_other}
 use Rattle.core_rule.proofs.footprint.Brought.{range_sum_is_counted_sum}
 use Rattle.core_rule.proofs.sweep_exact.GoneSeats.{IsGone, gone_stays_after_entry, gone_after_leave, gone_has_no_entry, gone_stays_after_history, gone_at_opening, gone_take_none, gone_make_no_words}
-use Rattle.core_rule.proofs.graph.LeftSeats.{left_registers_are_nil}
+use Rattle.heap_model.proofs.graph_changes.LeftSeats.{left_registers_are_nil}
 use Rattle.core_rule.proofs.growth.LaterGraphs.{accepts_later}
 use Rattle.core_rule.proofs.growth.RegisterIds.{root_is_in_register}
 

@@ -13,7 +13,7 @@ use Rattle.heap_model.specs.declared.graph.cell.Cell.{Cell}
 use Rattle.heap_model.specs.declared.id.Value.TheVariants.{Nil, Number, Object}
 use Rattle.heap_model.specs.declared.reply.Reply.TheVariants as replies
 use Rattle.heap_model.specs.graph.Graph.{GraphSeat}
-use Rattle.core_rule.proofs.graph.GraphSeats.{party_with_seat_is_new}
+use Rattle.heap_model.proofs.graph_changes.GraphSeats.{party_with_seat_is_new}
 
 -- the seat has left, or isn't there
 abbrev pub IsGone : Graph → ℕ → Type 0

@@ -10,11 +10,11 @@ use Rattle.heap_model.specs.declared.reply.Reply.TheVariants.{Got}
 use Rattle.core_machine.specs.declared.point.Access.TheVariants.{Naming}
 use Rattle.core_machine.specs.declared.point.Point.TheVariants as points
 use Rattle.core_machine.specs.seat.FitsAccess.{IsGet}
-use Rattle.core_rule.specs.growth.OwnGraphs.{IsSeatsSubgraph, EachOwnGraphIsWithin}
+use Rattle.heap_model.specs.graph.OwnGraphs.{IsSeatsSubgraph, EachOwnGraphIsWithin}
 use Rattle.core_rule.specs.told.Told.{IsAsTold, EachSeatIsAsTold}
 use Rattle.core_rule.proofs.entries.AtRest.{seat_fits}
 use Rattle.core_rule.proofs.graph.SameValues.{held_value_is_value as value_held}
-use Rattle.core_rule.proofs.growth.OwnGraphs.{same_register_values, as_many_objects_made, each_own_graph_is_within}
+use Rattle.heap_model.proofs.graph_changes.OwnGraphs.{same_register_values, as_many_objects_made, each_own_graph_is_within}
 use Rattle.core_rule.proofs.told.OwnLists.{TellsAlike, tells_alike_where_whole, tells_alike_but_target, total_of_own_entries}
 
 -- the graph of the seat's entries in the history is the seat's subgraph of the whole

@@ -10,7 +10,7 @@ use Rattle.heap_model.specs.calls.SeatState.{own_object, held_value}
 use Rattle.heap_model.specs.declared.id.Value.TheVariants as values
 use Rattle.core_machine.specs.declared.seat.register.Register.TheVariants.{Nil, Number, Object}
 use Rattle.core_rule.specs.told.Found.{IsMetaOf, TellsMeta}
-use Rattle.core_rule.specs.growth.OwnGraphs.{Shape, shape_of, IsSeatsSubgraph}
+use Rattle.heap_model.specs.graph.OwnGraphs.{Shape, shape_of, IsSeatsSubgraph}
 use Rattle.core_rule.proofs.graph.Numbering.{id_at_own_number}
 use Rattle.core_rule.proofs.graph.SameValues.{held_value_is_value as value_held}
 use Rattle.core_rule.specs.told.Told.{own_state}

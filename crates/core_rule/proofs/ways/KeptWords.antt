@@ -11,7 +11,8 @@ use Rattle.core_rule.proofs.Terms.{Objects, KeptObject, NamesKept, IsKept, IsSiz
 use Rattle.heap_model.specs.declared.graph.cell.Cell.{Cell}
 use Rattle.heap_model.specs.declared.id.Value.TheVariants as values
 use Rattle.heap_model.specs.Heap.{IsHeap}
-use Rattle.core_rule.proofs.graph.SameNodes.{made_node_has_size, node_cases}
+use Rattle.core_rule.proofs.graph.SameNodes.{made_node_has_size}
+use Rattle.heap_model.proofs.graph_changes.Shapes.{node_cases}
 use Rattle.core_rule.proofs.objects.ObjectWords.{object_word_is_record_meta, object_word_is_link, object_word_is_array_meta, object_word_is_spot, object_word_is_name, object_word_is_cell}
 use Rattle.core_rule.proofs.ways.ArrayWords.{array_length_in-meta, length_in-array_meta, spine_words_in-meta, spot_in-word, payload_in-word}
 use Rattle.core_rule.proofs.ways.Rows.{field_part_is_small, field_row_within_fragments}

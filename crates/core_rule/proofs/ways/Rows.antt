@@ -3,7 +3,7 @@ use Rattle.std.proofs.Common.{◌≡◌, ℕ, ◌+◌, ◌-◌, ◌*◌, ◌/◌
 use Rattle.std.proofs.lemmas.Bool.{lt-ltb}
 use Rattle.std.proofs.lemmas.Bool.Decides.{eqb_tells}
 use Rattle.core_rule.proofs.Terms.{record_fragments, Node, fragments_of, spine_words_of, row_of, part_of, is_cell, row_in, field_part}
-use Rattle.core_rule.proofs.graph.SameNodes.{node_cases}
+use Rattle.heap_model.proofs.graph_changes.Shapes.{node_cases}
 
 -- the field of a row and a part
 pub field_of_row_and_part : (i : ℕ) → 3 * row_of i + part_of i - 2 ≡ i

@@ -5,7 +5,7 @@ use Rattle.core_rule.proofs.Terms.{Command, Id, Node, Point, LoadingMeta, Walkin
 use Rattle.core_rule.proofs.Terms.{id_at, IsKept, Owner, LoadedKept, OnWay, FieldAhead, Finds, Locates, WayStands}
 use Rattle.core_machine.specs.declared.point.Point.TheVariants as points
 use Rattle.core_machine.specs.declared.point.Access.TheVariants.{LoadingSpot}
-use Rattle.core_rule.proofs.graph.SameNodes.{SameShape}
+use Rattle.heap_model.proofs.graph_changes.Shapes.{SameShape}
 
 -- the object of this number is kept as before: under its id, in its fragments, of its kind and with as many cells
 pub record ObjectStays (nodes now_nodes : ℕ → Node) (made now_made : List Id) (owner now_owner : ℕ → Owner) (fragments now_fragments : ℕ → List ℕ) (i : ℕ) : Type 0 where

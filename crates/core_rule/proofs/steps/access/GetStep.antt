@@ -20,7 +20,7 @@ use Rattle.core_rule.proofs.entries.AtRest.{seat_fits, spent_within_taken, taken
 use Rattle.core_rule.specs.roots.Roots.{IsInMarking}
 use Rattle.core_rule.proofs.steps.Assemble.{Keeps, StepKeeps}
 use Rattle.core_rule.proofs.ways.AtObject.{seat_is_present, way_object_is_registers, way_seat_is_at_rest}
-use Rattle.core_rule.proofs.graph.GraphRegisters.{has_sixteen_registers}
+use Rattle.heap_model.proofs.graph_changes.GraphRegisters.{has_sixteen_registers}
 use Rattle.core_rule.proofs.lists.Options.{if_some_of_the_one, if_some_of_none}
 use Rattle.core_rule.proofs.roots.CallRoots.{IsReachedNow, roots_hold_at_call, roots_hold_on_way, roots_hold_when_over, field_target_is_reached}
 use Rattle.core_rule.proofs.roots.RegisterRoots.{heads_hold_after_put}
@@ -30,7 +30,8 @@ use Rattle.core_rule.proofs.graph.Numbering.{id_at_own_number}
 use Rattle.core_rule.proofs.graph.ObjectReplies.{accepts_got, graph_after_got, keeps_space_of_got, target_within_registers}
 use Rattle.core_rule.proofs.entries.OwnEntries.{own_entries_grow}
 use Rattle.core_rule.proofs.entries.PhaseEntries.{reply_is_no_leave}
-use Rattle.core_rule.proofs.graph.PutRegister.{put_changes_only_registers, put_register_holds_value, other_registers_stay_by_put, holds_value_after_put}
+use Rattle.core_rule.proofs.graph.PutRegister.{holds_value_after_put}
+use Rattle.heap_model.proofs.graph_changes.PutRegister.{put_changes_only_registers, put_register_holds_value, other_registers_stay_by_put}
 use Rattle.core_rule.proofs.entries.SeatLists.{own_list_after_entry}
 use Rattle.core_rule.proofs.ways.LoadedObjects.{field_word_is_not_fixed}
 use Rattle.core_rule.proofs.ways.Told.{HasRoom, named_head, register_plain, stamp_in-value, head_in-value, plain_in-value}

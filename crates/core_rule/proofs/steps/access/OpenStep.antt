@@ -24,7 +24,7 @@ use Rattle.core_rule.proofs.steps.access.OnwardStep.{keeps_rule_by_onward_step}
 use Rattle.core_rule.proofs.steps.access.WaySteps.{keeps_rule_by_way_load}
 use Rattle.core_rule.proofs.entries.OwnEntries.{own_entries_grow}
 use Rattle.core_rule.proofs.entries.PhaseEntries.{reply_is_no_leave}
-use Rattle.core_rule.proofs.graph.PutRegister.{only_registers_of_itself}
+use Rattle.heap_model.proofs.graph_changes.PutRegister.{only_registers_of_itself}
 use Rattle.core_rule.proofs.entries.SeatLists.{own_list_after_entry}
 use Rattle.core_rule.proofs.steps.StepKinds.{StepKind, only_loads, shows_reply_if, meta_reply_is_plain, looks_follow_meta, looks_go_at_meta, comes_from_usual, meta_is_usual, tells_at_meta, on_words_of_plain_step}
 

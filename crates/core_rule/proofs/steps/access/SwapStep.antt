@@ -20,7 +20,7 @@ use Rattle.core_machine.specs.Move.{seat_after}
 use Rattle.core_machine.specs.seat.AccessMoves.{swap_move, new_word_of}
 use Rattle.core_rule.proofs.steps.Assemble.{StepKeeps}
 use Rattle.core_rule.proofs.entries.AtRest.{seat_fits, in_flight_has_not_left, spent_within_taken, taken_is_few_unspent, point_awaits_none}
-use Rattle.core_rule.proofs.graph.CellSet.{Sets, write_sets_cell}
+use Rattle.heap_model.proofs.graph_changes.CellSet.{Sets, write_sets_cell}
 use Rattle.core_rule.proofs.objects.CellWords.{stamp_of_value_word, register_word_is_value_word, register_names_kept}
 use Rattle.core_rule.proofs.cycle.CycleHistory.{seat_in_cycle_after_own}
 use Rattle.core_rule.proofs.entries.Legality.{legal_after_entry, keeps_space_of_plain_said}

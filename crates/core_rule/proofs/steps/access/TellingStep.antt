@@ -8,7 +8,7 @@ use Rattle.core_machine.specs.Moves.{local_move, seat_after}
 use Rattle.core_machine.specs.seat.Local.{local_reply_of}
 use Rattle.core_rule.proofs.steps.Assemble.{StepKeeps}
 use Rattle.core_rule.proofs.entries.AtRest.{seat_fits, in_flight_has_not_left, point_awaits_none}
-use Rattle.core_rule.proofs.graph.GraphRegisters.{has_sixteen_registers}
+use Rattle.heap_model.proofs.graph_changes.GraphRegisters.{has_sixteen_registers}
 use Rattle.core_rule.proofs.graph.LocalReplies.{computed_reply_is_local}
 use Rattle.core_rule.proofs.roots.CallRoots.{IsReachedNow, roots_hold_when_over, local_heads_hold}
 use Rattle.core_rule.proofs.steps.LocalStep.{keeps_rule_by_local_reply}

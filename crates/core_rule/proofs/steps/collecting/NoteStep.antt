@@ -18,7 +18,7 @@ use Rattle.core_rule.proofs.entries.Noted.{cycle_has_ended, cycle_began_since}
 use Rattle.core_rule.proofs.entries.PhaseEntries.{reply_is_no_leave}
 use Rattle.core_rule.proofs.entries.SeatLists.{own_list_is_all_told}
 use Rattle.core_rule.proofs.graph.LocalReplies.{IsLocalReply, HoldAll}
-use Rattle.core_rule.proofs.graph.PutRegister.{only_registers_of_itself}
+use Rattle.heap_model.proofs.graph_changes.PutRegister.{only_registers_of_itself}
 use Rattle.core_rule.proofs.lists.Options.{holds_of_some}
 use Rattle.core_rule.proofs.roots.CallRoots.{IsReachedNow}
 use Rattle.core_rule.proofs.marking.Marks.{roots_hold_off_way}

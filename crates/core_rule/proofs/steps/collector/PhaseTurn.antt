@@ -23,7 +23,7 @@ use Rattle.core_rule.proofs.colours.LeadsFrames.{led_before_ahead_write}
 use Rattle.core_rule.proofs.colours.MarkWords.{marks_where_controls_same}
 use Rattle.core_rule.proofs.cycle.NextPhase.{seat_in_cycle_next_phase}
 use Rattle.core_rule.proofs.entries.PhaseEntries.{phase_rises, answered_stays, left_stays}
-use Rattle.core_rule.proofs.graph.SameNodes.{SameNodes, same_nodes_of_equal}
+use Rattle.heap_model.proofs.graph_changes.Shapes.{SameNodes, same_nodes_of_equal}
 use Rattle.core_rule.proofs.frames.SeatFrames.{with_entry}
 use Rattle.core_rule.proofs.spines.OtherWords.{leaves_spines_after_phase}
 use Rattle.core_rule.proofs.halves.PhaseSpaces.{EndsPhase, BeginsAt, LetsGo, lets_go_of_none, space_stands_next_phase}

@@ -17,7 +17,7 @@ use Rattle.core_rule.proofs.book.BookGoing.{book_goes_on_with_history}
 use Rattle.core_rule.proofs.frames.BudgetWritten.{budget_words, budget_words_leave_places, heap_stands_after_budget, seat_stands_after_budget}
 use Rattle.core_rule.proofs.frames.EntryFrames.{same_fragments_of_itself, heap_stands_after_entry, other_seat_stands_after_entry}
 use Rattle.core_rule.proofs.frames.SeatFrames.{with_entry}
-use Rattle.core_rule.proofs.graph.SameNodes.{SameNodes, same_nodes_of_equal}
+use Rattle.heap_model.proofs.graph_changes.Shapes.{SameNodes, same_nodes_of_equal}
 use Rattle.core_rule.proofs.marking.SweepMarks.{after_swept_either, marking_stands_after_swept}
 use Rattle.core_rule.proofs.budgets.BudgetFrames.{granted_words_stay}
 use Rattle.core_rule.proofs.budgets.BudgetSteps.{budget_word_is_small, fallen_budget_fits_word}

@@ -24,11 +24,11 @@ use Rattle.core_rule.proofs.cycle.CycleHistory.{seat_in_cycle_after_own}
 use Rattle.core_rule.proofs.hand.Bodies.{bare_seat_holds_reserve}
 use Rattle.core_rule.proofs.hand.EmptyHand.{gathers_right_unbegun}
 use Rattle.core_rule.proofs.entries.InFlight.{began_idle_after_reply, began_after_entry}
-use Rattle.core_rule.proofs.entries.Others.{seat_is_not_other}
+use Rattle.heap_model.proofs.graph_changes.OwnGraphs.{seat_is_not_other}
 use Rattle.core_rule.proofs.entries.OwnEntries.{own_list_grows, counts_agree_after_own}
 use Rattle.core_rule.proofs.entries.PhaseEntries.{reply_is_no_leave}
 use Rattle.core_rule.proofs.frames.Replying.{heap_stands_after_reply, other_seat_stands_after_reply, same_grants_after_reply}
-use Rattle.core_rule.proofs.graph.SameNodes.{SameNodes, same_nodes_of_equal}
+use Rattle.heap_model.proofs.graph_changes.Shapes.{SameNodes, same_nodes_of_equal}
 use Rattle.core_rule.proofs.frames.SeatFrames.{with_entry}
 use Rattle.core_rule.proofs.budgets.BudgetFrames.{same_grants_twice}
 use Rattle.core_rule.proofs.budgets.NoneMade.{same_weights_where_none_made}

@@ -27,10 +27,10 @@ use Rattle.core_rule.proofs.hand.EmptyHand.{together_where_empty, is_stored_wher
 use Rattle.core_rule.proofs.frames.EntryFrames.{SameFragments, UsesNothing, heap_stands_after_entry, other_seat_stands_after_entry, same_grants_after_entry}
 use Rattle.core_rule.proofs.hand.HandMoves.{is_not_borne_by_seat}
 use Rattle.core_rule.proofs.entries.Legality.{legal_after_entry}
-use Rattle.core_rule.proofs.entries.Others.{seat_is_not_other}
+use Rattle.heap_model.proofs.graph_changes.OwnGraphs.{seat_is_not_other}
 use Rattle.core_rule.proofs.entries.OwnEntries.{own_list_grows}
 use Rattle.core_rule.proofs.entries.PhaseEntries.{left_stays}
-use Rattle.core_rule.proofs.graph.SameNodes.{SameNodes, same_nodes_of_equal}
+use Rattle.heap_model.proofs.graph_changes.Shapes.{SameNodes, same_nodes_of_equal}
 use Rattle.core_rule.proofs.frames.SeatFrames.{with_entry}
 use Rattle.core_rule.proofs.budgets.BudgetFrames.{SameGrants}
 use Rattle.core_rule.proofs.budgets.NoneMade.{MakesNone, no_place_where_none_made}

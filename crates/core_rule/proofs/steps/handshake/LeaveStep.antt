@@ -29,7 +29,7 @@ use Rattle.core_rule.proofs.cycle.AnswerWords.{same_fragments_after_answer, heap
 use Rattle.core_rule.proofs.steps.Assemble.{StepKeeps}
 use Rattle.core_rule.proofs.entries.AtRest.{seat_fits, in_flight_has_not_left, reserve_and_spent_is_taken, spent_within_taken}
 use Rattle.core_rule.proofs.frames.EntryFrames.{SameFragments}
-use Rattle.core_rule.proofs.graph.GraphSeats.{SeatChanges, party_with_seat_is_new, seat_changes_with_seat}
+use Rattle.heap_model.proofs.graph_changes.GraphSeats.{SeatChanges, party_with_seat_is_new, seat_changes_with_seat}
 use Rattle.core_rule.proofs.entries.Legality.{legal_after_entry, keeps_space_of_plain_said}
 use Rattle.core_rule.proofs.objects.ObjectFrames.{objects_with_same_words}
 use Rattle.core_rule.proofs.entries.PhaseEntries.{phase_stays, answered_stays, left_after_leave}

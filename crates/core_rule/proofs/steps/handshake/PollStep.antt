@@ -29,7 +29,7 @@ use Rattle.core_rule.proofs.graph.LocalReplies.{IsLocalReply, HoldAll}
 use Rattle.core_rule.proofs.steps.LocalStep.{keeps_rule_by_local_reply}
 use Rattle.core_rule.proofs.entries.OwnEntries.{counts_agree_without_entry}
 use Rattle.core_rule.proofs.entries.PhaseEntries.{reply_is_no_leave}
-use Rattle.core_rule.proofs.graph.PutRegister.{only_registers_of_itself}
+use Rattle.heap_model.proofs.graph_changes.PutRegister.{only_registers_of_itself}
 use Rattle.core_rule.proofs.entries.SeatLists.{own_list_is_all_told}
 use Rattle.core_rule.proofs.entries.PhasesTold.{command_polls_or_collects}
 use Rattle.core_rule.proofs.budgets.NoneMade.{no_place_where_none_made, same_weights_where_none_made}

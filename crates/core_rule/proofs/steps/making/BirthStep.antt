@@ -9,7 +9,8 @@ use Rattle.core_machine.specs.Moves.{plain_move, bears_black_of, seat_after}
 use Rattle.core_machine.specs.declared.step.Step.TheVariants as steps
 use Rattle.core_machine.specs.declared.step.MakingStep.TheVariants.{Birth}
 use Rattle.core_rule.proofs.cycle.FieldFrames.{watched_is_born}
-use Rattle.core_rule.proofs.frames.SeatFrames.{same_party_of_same_graph, seat_told_same_without_entry, kept_stays_with_owners, address_at_stays, seat_stands_where_left_alone, registers_stay_with_owners}
+use Rattle.core_rule.proofs.frames.SeatFrames.{seat_told_same_without_entry, kept_stays_with_owners, address_at_stays, seat_stands_where_left_alone, registers_stay_with_owners}
+use Rattle.heap_model.proofs.graph_changes.SameParties.{same_party_of_same_graph}
 use Rattle.core_rule.proofs.marking.MakingMarks.{leaves_marking_when_borne, bears_black_while_marking, bears_white_when_answered}
 use Rattle.core_rule.proofs.marking.Marks.{marks_go_on_off_way}
 use Rattle.core_rule.proofs.budgets.BudgetFrames.{same_grants_twice, same_grants_recoloured, same_told_of_itself}

@@ -15,7 +15,8 @@ use Rattle.core_rule.specs.hand.Together.{AreTogether}
 use Rattle.core_rule.proofs.cycle.FieldFrames.{watched_is_born}
 use Rattle.core_rule.proofs.book.BookGoing.{book_goes_on_with_owners}
 use Rattle.core_rule.proofs.book.OwnersGo.{owners_go_on_by_claim}
-use Rattle.core_rule.proofs.frames.SeatFrames.{KeptStays, same_party_of_same_graph, kept_stays_with_owners, address_at_stays, seat_stands_where_left_alone, registers_stay_with_owners}
+use Rattle.core_rule.proofs.frames.SeatFrames.{KeptStays, kept_stays_with_owners, address_at_stays, seat_stands_where_left_alone, registers_stay_with_owners}
+use Rattle.heap_model.proofs.graph_changes.SameParties.{same_party_of_same_graph}
 use Rattle.core_rule.proofs.marking.MakingMarks.{leaves_marking_when_handed}
 use Rattle.core_rule.proofs.marking.Marks.{marks_go_on_off_way}
 use Rattle.core_rule.proofs.budgets.SameBooks.{same_grants_with_owners, same_dead_after_handing}

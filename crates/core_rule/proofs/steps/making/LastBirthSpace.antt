@@ -19,7 +19,7 @@ use Rattle.core_rule.proofs.entries.Swung.{swung_is_made}
 use Rattle.core_rule.proofs.entries.ToldSpines.{has_swung_before_entry, returned_in_cycle_stays}
 use Rattle.core_rule.proofs.graph.IdsGrowth.{OneMore, without_node_is_not_made}
 use Rattle.core_rule.proofs.graph.Numbering.{id_stays_by_append, new_id_stands_last}
-use Rattle.core_rule.proofs.graph.SameNodes.{SameShape, same_shape_of_equal, same_shape_same_words}
+use Rattle.heap_model.proofs.graph_changes.Shapes.{SameShape, same_shape_of_equal, same_shape_same_words}
 use Rattle.core_rule.proofs.hand.Bodies.{body_has_each_once, body_is_own}
 use Rattle.core_rule.proofs.hand.MakingSeats.{made_object_is_sized, made_body_is_whole, newborn_word_is_fresh}
 use Rattle.core_rule.proofs.lists.Members.{position_of, element_stands_at_position}

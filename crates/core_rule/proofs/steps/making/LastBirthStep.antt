@@ -10,7 +10,8 @@ use Rattle.core_machine.specs.declared.step.MakingStep.TheVariants.{LastBirth}
 use Rattle.core_rule.proofs.objects.ObjectsGrowth.{old_spine_stays, NewBody, objects_after_growth}
 use Rattle.core_rule.proofs.spines.SpineBirths.{gone_stays_at_birth, spine_in_hand_after_birth, spines_stand_after_birth, spines_left_after_birth}
 use Rattle.core_rule.proofs.spines.SpineFrames.{PlacesStay, spine_is_stored_still}
-use Rattle.core_rule.proofs.frames.SeatFrames.{KeptStays, address_at_stays, same_party_of_same_graph, seat_told_same_after_other, seat_stands_where_left_alone}
+use Rattle.core_rule.proofs.frames.SeatFrames.{KeptStays, address_at_stays, seat_told_same_after_other, seat_stands_where_left_alone}
+use Rattle.heap_model.proofs.graph_changes.SameParties.{same_party_of_same_graph}
 use Rattle.core_rule.proofs.steps.making.LastBirthSpace.{graph_is_grown, one_more_object_born, born_body_each_once, body_was_not_kept, born_body_is_new, made_is_one_longer, same_shapes_after_birth, new_spine_words_are_needed, space_stands_after_birth}
 use Rattle.core_rule.proofs.cycle.FieldFrames.{watched_is_born}
 use Rattle.core_rule.proofs.marking.LastBirthMarks.{book_born, marks_go_on_when_made}
@@ -22,8 +23,8 @@ use Rattle.core_rule.proofs.counts.CountMoves.{used_where_same_taken}
 use Rattle.core_rule.proofs.cycle.CycleHistory.{heap_in_cycle_after_entry, seat_in_cycle_after_own, seat_in_cycle_after_other}
 use Rattle.core_rule.proofs.hand.EmptyHand.{together_where_empty}
 use Rattle.core_rule.proofs.gather.GatherMoves.{gathers_right_untried, gathers_right_where_same_free}
-use Rattle.core_rule.proofs.graph.GraphGrowth.{other_party_stays_by_add}
-use Rattle.core_rule.proofs.graph.GraphRegisters.{has_sixteen_registers}
+use Rattle.heap_model.proofs.graph_changes.GraphGrowth.{other_party_stays_by_add}
+use Rattle.heap_model.proofs.graph_changes.GraphRegisters.{has_sixteen_registers}
 use Rattle.core_rule.proofs.graph.IdsGrowth.{OneMore, are_made_with_new, new_number_is_length}
 use Rattle.core_rule.proofs.entries.InFlight.{making_awaits_none, began_idle_after_reply}
 use Rattle.core_rule.proofs.book.BirthsGo.{painted_colours_go_on}
@@ -39,7 +40,8 @@ use Rattle.core_rule.proofs.entries.MadeEntry.{used_after_made_entry, counts_agr
 use Rattle.core_rule.proofs.cycle.MakingCycle.{answer_same_after_control, seat_in_cycle_after_control}
 use Rattle.core_rule.proofs.objects.NamesGrowth.{names_stay_after_growth, object_stays_after_growth, old_number_is_not_new}
 use Rattle.core_rule.proofs.objects.ObjectFrames.{objects_after_control}
-use Rattle.core_rule.proofs.entries.Others.{gathers_right_after_entry, seat_is_not_other}
+use Rattle.core_rule.proofs.entries.Others.{gathers_right_after_entry}
+use Rattle.heap_model.proofs.graph_changes.OwnGraphs.{seat_is_not_other}
 use Rattle.core_rule.proofs.entries.OwnEntries.{own_list_grows}
 use Rattle.core_rule.proofs.owners.OwnerFrames.{owners_stand_after_keeping}
 use Rattle.core_rule.proofs.owners.OwnerLemmas.{own_is_not_boards}

@@ -14,7 +14,7 @@ use Rattle.core_rule.proofs.colours.LeadsFrames.{SameSources}
 use Rattle.core_rule.proofs.cycle.CycleHistory.{seat_in_cycle_after_own}
 use Rattle.core_rule.proofs.cycle.MakingCycle.{seat_in_cycle_goes_on}
 use Rattle.core_rule.proofs.entries.InFlight.{making_awaits_none, began_idle_after_reply}
-use Rattle.core_rule.proofs.entries.Others.{seat_is_not_other}
+use Rattle.heap_model.proofs.graph_changes.OwnGraphs.{seat_is_not_other}
 use Rattle.core_rule.proofs.entries.OwnEntries.{own_list_grows, counts_agree_after_own}
 use Rattle.core_rule.proofs.entries.PhaseEntries.{reply_is_no_leave}
 use Rattle.core_rule.proofs.entries.SeatLists.{making_list_is_all_told, own_list_where_all_told}
@@ -22,7 +22,7 @@ use Rattle.core_rule.proofs.book.BookGoing.{book_goes_on_with_history}
 use Rattle.core_rule.proofs.frames.Replying.{effect_summand_is_none, heap_stands_after_reply, same_grants_after_reply, other_seat_stands_after_reply}
 use Rattle.core_rule.proofs.frames.SeatFrames.{with_entry}
 use Rattle.core_rule.proofs.gather.GatherMoves.{gathers_right_untried}
-use Rattle.core_rule.proofs.graph.SameNodes.{SameNodes, same_nodes_of_equal}
+use Rattle.heap_model.proofs.graph_changes.Shapes.{SameNodes, same_nodes_of_equal}
 use Rattle.core_rule.proofs.hand.EmptyHand.{together_where_empty, is_stored_where_none, holding_of_equal_hand}
 use Rattle.core_rule.proofs.marking.Marks.{leaves_by_same_sources, marks_go_on_off_way}
 use Rattle.core_rule.proofs.budgets.BudgetFrames.{stepped, SameGrants}

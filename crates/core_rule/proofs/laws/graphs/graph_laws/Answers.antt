@@ -1,5 +1,5 @@
 use Rattle.core_rule.proofs.growth.LaterGraphs.{unreached_stays_so, each_object_stays}
-use Rattle.core_rule.proofs.growth.OwnGraphs.{each_own_graph_is_within}
+use Rattle.heap_model.proofs.graph_changes.OwnGraphs.{each_own_graph_is_within}
 use Rattle.core_rule.proofs.laws.graphs.graph_laws.Goals as goal
 
 pub returns-clause-unreached : goal.returns-clause-unreached

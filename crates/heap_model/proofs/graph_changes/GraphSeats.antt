@@ -2,10 +2,13 @@
 use Rattle.std.proofs.Common.{◌≡◌, ◌≢◌, ℕ, false, inl, inr, List, length, slice_get, refl, sym, ap, ◌∙◌, subst}
 use Rattle.std.proofs.lemmas.Bool.{cases_eq}
 use Rattle.std.proofs.lemmas.List.{get_or-set_same, get_or-set_other}
-use Rattle.core_rule.proofs.Terms.{Id, Board, Made, with_graph_seat, graph_seat, node, absent_graph_seat, Graph, Node}
-use Rattle.heap_model.specs.graph.Graph.{GraphSeat}
-use Rattle.core_rule.proofs.graph.GraphGrowth.{present_seat_within_graph}
-use Rattle.core_rule.proofs.graph.SameNodes.{SameNodes, same_nodes_of_equal}
+use Rattle.heap_model.specs.graph.Graph.{GraphSeat, Graph, Node}
+use Rattle.heap_model.proofs.graph_changes.GraphGrowth.{present_seat_within_graph}
+use Rattle.heap_model.proofs.graph_changes.Shapes.{SameNodes, same_nodes_of_equal}
+use Rattle.heap_model.specs.declared.id.Id.{Id}
+use Rattle.heap_model.specs.declared.id.Id.TheVariants.{Board, Made}
+use Rattle.heap_model.specs.graph.Changes.{with_graph_seat}
+use Rattle.heap_model.specs.graph.Objects.{graph_seat, node, absent_graph_seat}
 
 -- each object is as before, and each other seat
 pub record SeatChanges (g now : Graph) (number : ℕ) : Type 0 where

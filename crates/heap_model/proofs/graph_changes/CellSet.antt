@@ -4,11 +4,14 @@ use Rattle.std.proofs.lemmas.Bool.{cases_eq}
 use Rattle.std.proofs.lemmas.List.{get_or-set_same, get_or-set_other, length-set}
 use Rattle.std.proofs.lemmas.Option.{slice_get_within, slice_get-get_or, get_or_from_slice_get}
 use Rattle.heap_model.specs.declared.graph.cell.Cell.{Cell}
-use Rattle.core_rule.proofs.Terms.{Id, Board, Made, with_cell, with_object_cell, with_graph_seat, count_set, write, graph_seat, node, absent_graph_seat, Graph, Node, fresh}
 use Rattle.heap_model.specs.declared.id.Value.TheVariants as values
-use Rattle.heap_model.specs.graph.Graph.{GraphSeat}
-use Rattle.core_rule.proofs.graph.GraphSeats.{party_with_seat_is_new, other_party_stays, nodes_stay_with_seat}
-use Rattle.core_rule.proofs.frames.SeatFrames.{SameParty, same_party_of_same_graph}
+use Rattle.heap_model.specs.graph.Graph.{GraphSeat, Graph, Node, fresh}
+use Rattle.heap_model.proofs.graph_changes.GraphSeats.{party_with_seat_is_new, other_party_stays, nodes_stay_with_seat}
+use Rattle.heap_model.proofs.graph_changes.SameParties.{SameParty, same_party_of_same_graph}
+use Rattle.heap_model.specs.declared.id.Id.{Id}
+use Rattle.heap_model.specs.declared.id.Id.TheVariants.{Board, Made}
+use Rattle.heap_model.specs.graph.Changes.{with_cell, with_object_cell, with_graph_seat, count_set, write}
+use Rattle.heap_model.specs.graph.Objects.{graph_seat, node, absent_graph_seat}
 
 -- what stands in a list where one element was set
 pub slice_get-set_same : {A : Type 0} (xs : List A) (i : ℕ) (a : A) → i < length xs → slice_get (set xs i a) i ≡ Some a

@@ -4,10 +4,13 @@ use Rattle.std.proofs.Math.Seq.{map-set_same}
 use Rattle.std.proofs.lemmas.Bool.{cases_eq, cases_lt}
 use Rattle.std.proofs.lemmas.List.{get_or-set_same, get_or-set_other, get_or_past}
 use Rattle.heap_model.specs.declared.graph.cell.Cell.{Cell}
-use Rattle.core_rule.proofs.Terms.{Board, Made, Value, with_graph_seat, with_object_cell, with_cell, write, Graph, Node, fresh, graph_seat, absent_graph_seat}
 use Rattle.heap_model.specs.declared.id.Value.TheVariants.{Nil, Number, Object}
-use Rattle.heap_model.specs.graph.Graph.{GraphSeat}
-use Rattle.core_rule.specs.growth.OwnGraphs.{shape_of, AreAlike, AgreeOn}
+use Rattle.heap_model.specs.graph.Graph.{GraphSeat, Graph, Node, fresh}
+use Rattle.heap_model.specs.graph.OwnGraphs.{shape_of, AreAlike, AgreeOn}
+use Rattle.heap_model.specs.declared.id.Id.TheVariants.{Board, Made}
+use Rattle.heap_model.specs.declared.id.Value.{Value}
+use Rattle.heap_model.specs.graph.Changes.{with_graph_seat, with_object_cell, with_cell, write}
+use Rattle.heap_model.specs.graph.Objects.{graph_seat, absent_graph_seat}
 
 -- a seat is like itself, like each that is like it, and like what is like one that is like it
 pub alike_same : (one : GraphSeat) → AreAlike one one

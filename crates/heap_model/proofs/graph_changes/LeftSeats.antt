@@ -2,15 +2,24 @@
 use Rattle.std.proofs.Common.{◌≡◌, ℕ, true, false, List, [], ◌∷◌, get_or, set, length, replicate, refl, sym, ap, subst, inl, inr, arith, length-set}
 use Rattle.std.proofs.lemmas.Bool.{cases_eq, cases_lt}
 use Rattle.std.proofs.lemmas.List.{get_or-set_same, get_or-set_other, get_or_past, get_or-replicate, length-replicate}
-use Rattle.core_rule.proofs.Terms.{Board, Made, Value, Command, Reply, Entry, Said, Heap, graph_of, Accepts, AcceptsAll, IsObjectLegal, IsPresent, graph_seat, register_value, unset}
-use Rattle.core_rule.proofs.Terms.{absent_graph_seat, Graph, opening, opening_graph_seat, with_graph_seat, write, count_set, with_object_cell, after_entry, after_reply}
-use Rattle.core_rule.proofs.Terms.{graph_after}
 use Rattle.heap_model.specs.declared.id.Value.TheVariants.{Nil, Number, Object}
 use Rattle.heap_model.specs.declared.graph.cell.Cell.{Cell}
 use Rattle.heap_model.specs.declared.command.Command.TheVariants as commands
 use Rattle.heap_model.specs.declared.reply.Reply.TheVariants as replies
 use Rattle.heap_model.specs.Limits.{register_count}
-use Rattle.heap_model.specs.graph.Graph.{GraphSeat}
+use Rattle.heap_model.specs.graph.Graph.{GraphSeat, unset, Graph, opening, opening_graph_seat}
+use Rattle.heap_model.specs.declared.id.Id.TheVariants.{Board, Made}
+use Rattle.heap_model.specs.declared.id.Value.{Value}
+use Rattle.heap_model.specs.declared.command.Command.{Command}
+use Rattle.heap_model.specs.declared.reply.Reply.{Reply}
+use Rattle.heap_model.specs.declared.entry.Entry.{Entry}
+use Rattle.heap_model.specs.declared.entry.Entry.TheVariants.{Said}
+use Rattle.heap_model.specs.declared.heap.Heap.{Heap}
+use Rattle.heap_model.specs.account.Cycles.{graph_of}
+use Rattle.heap_model.specs.graph.Legal.{Accepts, AcceptsAll, IsObjectLegal, IsPresent}
+use Rattle.heap_model.specs.graph.Objects.{graph_seat, register_value, absent_graph_seat}
+use Rattle.heap_model.specs.graph.Changes.{with_graph_seat, write, count_set, with_object_cell}
+use Rattle.heap_model.specs.graph.Growth.{after_entry, after_reply, graph_after}
 
 -- where the seat has left, its registers are empty
 abbrev IsEmptied : GraphSeat → Type 0

@@ -4,18 +4,30 @@ use Rattle.std.specs.Prelude.{map, cond, ◌==◌}
 use Rattle.std.proofs.lemmas.Bool.{cases_lt}
 use Rattle.std.proofs.lemmas.Bool.Decides.{eqb_tells}
 use Rattle.std.proofs.lemmas.List.{get_or_past, length-map, map-append, get_or-replicate, length-replicate}
-use Rattle.core_rule.proofs.Terms.{is_of, Command, Entry, Heap, Made, Value, Reply, with_register, add, count_set, Graph, Node, fresh, opening, opening_graph_seat, after_entry, unset}
-use Rattle.core_rule.proofs.Terms.{after_reply, graph_after, graph_seat, absent_graph_seat, register_value}
 use Rattle.heap_model.specs.declared.command.Command.TheVariants as commands
 use Rattle.heap_model.specs.declared.entry.Entry.TheVariants as entries
-use Rattle.heap_model.specs.declared.id.Value.TheVariants.{Nil, Number, Object}
+use Rattle.heap_model.specs.declared.id.Value.TheVariants.{Nil, Object}
 use Rattle.heap_model.specs.declared.reply.Reply.TheVariants as replies
-use Rattle.heap_model.specs.graph.Graph.{GraphSeat, unseen}
-use Rattle.core_rule.proofs.entries.Others.{seat_is_not_other}
-use Rattle.core_rule.specs.growth.OwnGraphs.{Shape, shape_of, AgreeOn, EachOwnGraphIsWithin}
-use Rattle.core_rule.proofs.growth.AgreeingGraphs.{agree_on_itself, agree_on_reversed, agree_on_composed, agree_on_same_seat_change, agree_on_with_other_seat, agree_on_after_write}
+use Rattle.heap_model.specs.graph.Graph.{GraphSeat, unseen, Graph, Node, fresh, opening, opening_graph_seat, unset}
+use Rattle.heap_model.specs.graph.OwnGraphs.{Shape, shape_of, AgreeOn, EachOwnGraphIsWithin}
+use Rattle.heap_model.proofs.graph_changes.AgreeingGraphs.{agree_on_itself, agree_on_reversed, agree_on_composed, agree_on_same_seat_change, agree_on_with_other_seat, agree_on_after_write}
 use Rattle.heap_model.specs.declared.graph.cell.Cell.{Cell}
-use Rattle.heap_model.specs.graph.Objects.{register_cell}
+use Rattle.heap_model.specs.graph.Objects.{register_cell, graph_seat, absent_graph_seat, register_value}
+use Rattle.heap_model.specs.account.Effects.{is_of}
+use Rattle.heap_model.specs.declared.command.Command.{Command}
+use Rattle.heap_model.specs.declared.entry.Entry.{Entry}
+use Rattle.heap_model.specs.declared.heap.Heap.{Heap}
+use Rattle.heap_model.specs.declared.id.Id.TheVariants.{Made}
+use Rattle.heap_model.specs.declared.reply.Reply.{Reply}
+use Rattle.heap_model.specs.graph.Changes.{with_register, add, count_set}
+use Rattle.heap_model.specs.graph.Growth.{after_entry, after_reply, graph_after}
+
+-- an entry of a seat is no other's
+pub seat_is_not_other : (number r : ℕ) → r ≢ number → (number == r) ≡ false
+seat_is_not_other number r apart = elim (eqb_tells number r) as (λ _. (number == r) ≡ false) [
+  | inl same ↦ absurd (apart (sym same.1))
+  | inr other ↦ other.0
+]
 
 module _ (number : ℕ) (one other : Graph) (agrees : AgreeOn number one other) where
   -- as many objects were made

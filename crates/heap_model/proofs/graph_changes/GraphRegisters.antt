@@ -3,14 +3,22 @@ use Rattle.std.proofs.Common.{◌≡◌, ℕ, ◌<◌, inl, inr, false, List, []
 use Rattle.std.proofs.lemmas.Bool.{cases_eq}
 use Rattle.std.proofs.lemmas.List.{get_or-set_same, get_or-set_other, length-set, length-replicate, get_or-replicate}
 use Rattle.heap_model.specs.declared.graph.cell.Cell.{Cell}
-use Rattle.core_rule.proofs.Terms.{Command, Entry, Heap, Board, Made, Value, Reply, with_graph_seat, with_register, add, write, count_set, graph_of, after_entry, after_reply, unset}
-use Rattle.core_rule.proofs.Terms.{graph_after, graph_seat, absent_graph_seat, Graph, Node, opening, opening_graph_seat}
 use Rattle.heap_model.specs.declared.command.Command.TheVariants as commands
 use Rattle.heap_model.specs.declared.entry.Entry.TheVariants as entries
 use Rattle.heap_model.specs.declared.id.Value.TheVariants.{Nil, Number, Object}
 use Rattle.heap_model.specs.declared.reply.Reply.TheVariants as replies
-use Rattle.heap_model.specs.graph.Graph.{GraphSeat, unseen}
-use Rattle.core_rule.proofs.graph.GraphGrowth.{present_seat_within_graph}
+use Rattle.heap_model.specs.graph.Graph.{GraphSeat, unseen, unset, Graph, Node, opening, opening_graph_seat}
+use Rattle.heap_model.proofs.graph_changes.GraphGrowth.{present_seat_within_graph}
+use Rattle.heap_model.specs.declared.command.Command.{Command}
+use Rattle.heap_model.specs.declared.entry.Entry.{Entry}
+use Rattle.heap_model.specs.declared.heap.Heap.{Heap}
+use Rattle.heap_model.specs.declared.id.Id.TheVariants.{Board, Made}
+use Rattle.heap_model.specs.declared.id.Value.{Value}
+use Rattle.heap_model.specs.declared.reply.Reply.{Reply}
+use Rattle.heap_model.specs.graph.Changes.{with_graph_seat, with_register, add, write, count_set}
+use Rattle.heap_model.specs.account.Cycles.{graph_of}
+use Rattle.heap_model.specs.graph.Growth.{after_entry, after_reply, graph_after}
+use Rattle.heap_model.specs.graph.Objects.{graph_seat, absent_graph_seat}
 
 -- each seat of the graph has sixteen registers
 pub record Sixteen (g : Graph) : Type 0 where

@@ -2,10 +2,13 @@
 use Rattle.std.proofs.Common.{◌≡◌, ◌≢◌, ℕ, zero, suc, ◌+◌, ◌<◌, false, inl, inr, List, [], ◌∷◌, ◌++◌, length, get_or, set, slice_get, Some, None, refl, ap, ◌∙◌, arith, length-append}
 use Rattle.std.proofs.lemmas.Bool.{cases_eq}
 use Rattle.std.proofs.lemmas.List.{get_or-set_same, get_or-set_other}
-use Rattle.core_rule.proofs.Terms.{Id, Board, Made, add, graph_seat, register_value, node, absent_graph_seat, Graph, Node, unset}
 use Rattle.heap_model.specs.declared.id.Value.TheVariants as values
-use Rattle.heap_model.specs.graph.Graph.{GraphSeat, unseen}
+use Rattle.heap_model.specs.graph.Graph.{GraphSeat, unseen, Graph, Node, unset}
 use Rattle.heap_model.specs.declared.graph.cell.Cell.{Cell}
+use Rattle.heap_model.specs.declared.id.Id.{Id}
+use Rattle.heap_model.specs.declared.id.Id.TheVariants.{Board, Made}
+use Rattle.heap_model.specs.graph.Changes.{add}
+use Rattle.heap_model.specs.graph.Objects.{graph_seat, register_value, node, absent_graph_seat}
 
 slice_get-push : {A : Type 0} (xs : List A) (x : A) → slice_get (xs ++ x ∷ []) (length xs) ≡ Some x
 slice_get-push [] x = refl
