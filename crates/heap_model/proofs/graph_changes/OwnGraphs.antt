@@ -6,7 +6,7 @@ use Rattle.std.proofs.lemmas.Bool.Decides.{eqb_tells}
 use Rattle.std.proofs.lemmas.List.{get_or_past, length-map, map-append, get_or-replicate, length-replicate}
 use Rattle.heap_model.specs.declared.command.Command.TheVariants as commands
 use Rattle.heap_model.specs.declared.entry.Entry.TheVariants as entries
-use Rattle.heap_model.specs.declared.id.Value.TheVariants.{Nil, Object}
+use Rattle.heap_model.specs.declared.id.Value.TheVariants.{Object}
 use Rattle.heap_model.specs.declared.reply.Reply.TheVariants as replies
 use Rattle.heap_model.specs.graph.Graph.{GraphSeat, unseen, Graph, Node, fresh, opening, opening_graph_seat, unset}
 use Rattle.heap_model.specs.graph.OwnGraphs.{Shape, shape_of, AgreeOn, EachOwnGraphIsWithin}

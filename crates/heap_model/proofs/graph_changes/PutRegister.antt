@@ -1,5 +1,5 @@
 -- A seat's register gets another value: the graph after it.
-use Rattle.std.proofs.Common.{◌≡◌, ◌≢◌, ℕ, ◌<◌, false, length, get_or, set, refl, ap, ◌∙◌, inl, inr, List, slice_index_or, slice_set, sym, subst}
+use Rattle.std.proofs.Common.{◌≡◌, ◌≢◌, ℕ, ◌<◌, false, length, get_or, set, refl, ap, ◌∙◌}
 use Rattle.std.proofs.lemmas.List.{get_or-set_same, get_or-set_other}
 use Rattle.heap_model.specs.graph.Graph.{GraphSeat, Graph, unset}
 use Rattle.heap_model.proofs.graph_changes.GraphSeats.{SeatChanges, seat_changes_of_itself, party_with_seat_is_new, seat_changes_with_seat}

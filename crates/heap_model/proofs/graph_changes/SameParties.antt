@@ -1,5 +1,5 @@
 -- A seat that has the same in two graphs.
-use Rattle.std.proofs.Common.{◌≡◌, ℕ, ◌<◌, false, List, [], ◌∷◌, ◌++◌, length, filter, drop, get_or, refl, sym, ap, ◌∙◌, subst, arith}
+use Rattle.std.proofs.Common.{◌≡◌, ℕ, List, length, get_or, ap}
 use Rattle.heap_model.specs.graph.Objects.{GraphSeat, graph_seat, register_value}
 use Rattle.heap_model.specs.declared.graph.cell.Cell.{Cell}
 use Rattle.heap_model.specs.graph.Graph.{Graph, unset}

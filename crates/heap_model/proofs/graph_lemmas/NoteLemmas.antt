@@ -1,5 +1,5 @@
 -- One more register, cell or seat of which the values were noted.
-use Rattle.std.proofs.Common.{◌≡◌, ℕ, ◌+◌, ◌<◌, ◌≤◌, List, length, get_or, take, All, Any, Contains, subst, take_all, ◌∙◌}
+use Rattle.std.proofs.Common.{◌≡◌, ℕ, ◌+◌, ◌<◌, ◌≤◌, List, length, get_or, take, All, Any, subst, take_all, ◌∙◌}
 use Rattle.std.proofs.lemmas.List.Elements.{All-more, All-weaker, Contains-get_or}
 use Rattle.heap_model.specs.declared.id.Id.{Id}
 use Rattle.heap_model.specs.declared.id.Value.{Value}
