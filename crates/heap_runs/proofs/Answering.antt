@@ -13,6 +13,7 @@ use Rattle.heap_model.specs.calls.SeatLaws.{EachCallCounts, EachCallSparesOthers
 use Rattle.heap_model.specs.graph.Objects.{graph_seat, absent_graph_seat}
 use Rattle.heap_model.specs.graph.Graph.{Graph, GraphSeat, opening, opening_graph_seat}
 use Rattle.heap_model.specs.graph.Growth.{after_entry, graph_after}
+use Rattle.heap_model.proofs.call_lemmas.SeatGrowth.{call_makes_one_at_most, call_stamps_once_at_most}
 use Rattle.heap_runs.specs.Play.{AreTurns}
 use Rattle.heap_runs.specs.PlayHeap.{PlayState, seat_state_of}
 use Rattle.heap_runs.specs.Playing.{NotesCall, NotesSeatLine, NotesTurns, IsThere, DoesFew, IsPlaying}
@@ -50,7 +51,7 @@ module _ (counts : EachCallCounts) (others : EachCallSparesOthers) (heap : Heap)
       more : DoesFew old seat calls → DoesFew new seat (calls + 1)
       more few =
           let up = counts (seat_state_of old seat) (seat_state_of new seat) command notes.reply (notes.answers.once once).adds in
-          record { few_objects = omega (arith, up.made_more, few.few_objects); few_sets = omega (arith, up.sets_more, few.few_sets) }
+          record { few_objects = omega (arith, up.made_more, call_makes_one_at_most command, few.few_objects); few_sets = omega (arith, up.sets_more, call_stamps_once_at_most command, few.few_sets) }
 
   pub seat_is_still_there : (number : ℕ) → (number ≡ seat → command ≢ Leave) → IsThere old number → IsThere new number
   seat_is_still_there number stays there = elim (is_collect command) [

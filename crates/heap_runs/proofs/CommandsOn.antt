@@ -17,6 +17,7 @@ use Rattle.heap_model.specs.declared.reply.Reply.{Reply}
 use Rattle.heap_model.specs.declared.reply.Reply.TheVariants.{Done}
 use Rattle.heap_model.specs.graph.Graph.{GraphSeat}
 use Rattle.heap_model.specs.runs.Told.{commands_told, waits_told}
+use Rattle.heap_model.proofs.call_lemmas.SeatGrowth.{call_makes_one_at_most, call_stamps_once_at_most}
 use Rattle.core_machine.specs.calls.Kept.{Kept}
 use Rattle.core_machine.specs.seat.Commands.{IsServed}
 use Rattle.core_machine.specs.seat.Looks.{noted_reply}
@@ -134,8 +135,8 @@ call_goes counts patience old new command reply once stays call present =
     record {
       made = call_made patience old new command reply once call;
       present = up.present_stays stays ∙ present;
-      objects = omega (arith, up.made_more);
-      sets = omega (arith, up.sets_more);
+      objects = omega (arith, up.made_more, call_makes_one_at_most command);
+      sets = omega (arith, up.sets_more, call_stamps_once_at_most command);
     }
 
 -- and so do commands and more of them

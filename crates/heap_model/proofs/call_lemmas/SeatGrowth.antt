@@ -18,7 +18,7 @@ use Rattle.heap_model.specs.graph.Growth.{after_entry, after_reply, graph_after}
 use Rattle.heap_model.specs.Needs.{array_fragments, record_fragments}
 use Rattle.heap_model.specs.graph.Objects.{absent_graph_seat, graph_seat, register_value}
 use Rattle.heap_model.specs.calls.SeatCalls.{AnswersBefore, ArrayBefore, ClaimsBefore, ComesBefore, gives_of, takes_of}
-use Rattle.heap_model.specs.calls.SeatLaws.{EachCallCounts, EachCallGrows, EachCallSparesOthers, CountsAsBefore}
+use Rattle.heap_model.specs.calls.SeatLaws.{most_made, most_stamped, EachCallCounts, EachCallGrows, EachCallSparesOthers, CountsAsBefore}
 use Rattle.heap_model.specs.calls.SeatState.{own_graph, own_graph_seat}
 use Rattle.heap_model.specs.graph.Graph.{fresh, Node, GraphSeat, Graph, opening}
 
@@ -64,11 +64,11 @@ each_call_grows old new command reply adds =
     ∙ fold-append after_entry (opening old.heap) old.mine (adds.before ++ said) ∙ fold-append after_entry (own_graph old) adds.before said
     ∙ ap (λ g. after_reply g old.number command reply) (quiet_before (own_graph old) old.number adds.unborn _ command reply adds.before adds.comes)
 
--- how a seat goes on: whether it leaves, and what it made and set
-record GoesOn (stays : Type 0) (old new : GraphSeat) : Type 0 where
+-- how a seat goes on: whether it leaves, and how much it made and set at most
+record GoesOn (stays : Type 0) (makes sets : ℕ) (old new : GraphSeat) : Type 0 where
   pub present : stays → new.left ≡ old.left
-  pub made : length new.objects ≤ length old.objects + 1
-  pub set_more : new.sets ≤ old.sets + 1
+  pub made : length new.objects ≤ length old.objects + makes
+  pub set_more : new.sets ≤ old.sets + sets
 
 -- another seat in its place is there, if any was
 with_cases : (g : Graph) (number : ℕ) (p : GraphSeat) → (graph_seat (with_graph_seat g number p) number ≡ p) ⊎ (graph_seat (with_graph_seat g number p) number ≡ graph_seat g number)
@@ -77,20 +77,20 @@ with_cases g number p = elim (cases_lt number (length g.seats)) [
   | inr past ↦ inr (get_or_past (set g.seats number p) number absent_graph_seat (omega (arith, past, length-set g.seats number p)) ∙ sym (get_or_past g.seats number absent_graph_seat past))
 ]
 
-goes_on_same : (stays : Type 0) (seat : GraphSeat) → GoesOn stays seat seat
-goes_on_same stays seat = record { present = λ there. refl; made = omega arith; set_more = omega arith }
+goes_on_same : (stays : Type 0) (makes sets : ℕ) (seat : GraphSeat) → GoesOn stays makes sets seat seat
+goes_on_same stays makes sets seat = record { present = λ there. refl; made = omega arith; set_more = omega arith }
 
-goes_on_with : (stays : Type 0) (g : Graph) (number : ℕ) (p : GraphSeat) → GoesOn stays (graph_seat g number) p → GoesOn stays (graph_seat g number) (graph_seat (with_graph_seat g number p) number)
-goes_on_with stays g number p goes = elim (with_cases g number p) [
-  | inl new ↦ subst (GoesOn stays (graph_seat g number)) (sym new) goes
-  | inr old ↦ subst (GoesOn stays (graph_seat g number)) (sym old) (goes_on_same stays (graph_seat g number))
+goes_on_with : (stays : Type 0) (makes sets : ℕ) (g : Graph) (number : ℕ) (p : GraphSeat) → GoesOn stays makes sets (graph_seat g number) p → GoesOn stays makes sets (graph_seat g number) (graph_seat (with_graph_seat g number p) number)
+goes_on_with stays makes sets g number p goes = elim (with_cases g number p) [
+  | inl new ↦ subst (GoesOn stays makes sets (graph_seat g number)) (sym new) goes
+  | inr old ↦ subst (GoesOn stays makes sets (graph_seat g number)) (sym old) (goes_on_same stays makes sets (graph_seat g number))
 ]
 
-goes_on_put : (stays : Type 0) (g : Graph) (number d : ℕ) (cell : Cell) → GoesOn stays (graph_seat g number) (graph_seat (with_register g number d cell) number)
-goes_on_put stays g number d cell = goes_on_with stays g number _ record { present = λ there. refl; made = omega arith; set_more = omega arith }
+goes_on_put : (stays : Type 0) (makes sets : ℕ) (g : Graph) (number d : ℕ) (cell : Cell) → GoesOn stays makes sets (graph_seat g number) (graph_seat (with_register g number d cell) number)
+goes_on_put stays makes sets g number d cell = goes_on_with stays makes sets g number _ record { present = λ there. refl; made = omega arith; set_more = omega arith }
 
-goes_on_add : (stays : Type 0) (g : Graph) (number d : ℕ) (object : Node) → GoesOn stays (graph_seat g number) (graph_seat (add g number d object) number)
-goes_on_add stays g number d object = goes_on_with stays g number _ record { present = λ there. refl; made = omega (arith, length-append (graph_seat g number).objects (object ∷ [])); set_more = omega arith }
+goes_on_add : (stays : Type 0) (sets : ℕ) (g : Graph) (number d : ℕ) (object : Node) → GoesOn stays 1 sets (graph_seat g number) (graph_seat (add g number d object) number)
+goes_on_add stays sets g number d object = goes_on_with stays 1 sets g number _ record { present = λ there. refl; made = omega (arith, length-append (graph_seat g number).objects (object ∷ [])); set_more = omega arith }
 
 same_counts_write : (g : Graph) (number : ℕ) (value : Value) (i : ℕ) (cell : Cell) → CountsAsBefore (graph_seat g number) (graph_seat (write g value i cell) number)
 same_counts_write g number Nil i cell = record { leaves_same = refl; made_same = refl; sets_same = refl }
@@ -107,31 +107,41 @@ same_counts_write g number (Object (Made q count)) i cell =
       | inr other ↦ subst (CountsAsBefore (graph_seat g number)) (sym (get_or-set_other g.seats q number p absent_graph_seat other)) record { leaves_same = refl; made_same = refl; sets_same = refl }
     ]
 
-goes_on_then : (stays : Type 0) (old now new : GraphSeat) → GoesOn stays old now → CountsAsBefore now new → GoesOn stays old new
-goes_on_then stays old now new goes same = record {
+goes_on_then : (stays : Type 0) (makes sets : ℕ) (old now new : GraphSeat) → GoesOn stays makes sets old now → CountsAsBefore now new → GoesOn stays makes sets old new
+goes_on_then stays makes sets old now new goes same = record {
   present = λ there. same.leaves_same ∙ goes.present there;
   made = omega (arith, same.made_same, goes.made);
   set_more = omega (arith, same.sets_same, goes.set_more);
 }
 
-goes_on_said : (g : Graph) (number : ℕ) (command : Command) (reply : Reply) → GoesOn (command ≢ commands.Leave) (graph_seat g number) (graph_seat (after_reply g number command reply) number)
-goes_on_said g number (commands.New d fields) (replies.Made id) = goes_on_add _ g number d (fresh false fields)
-goes_on_said g number (commands.Array d cells) (replies.Made id) = goes_on_add _ g number d (fresh true cells)
-goes_on_said g number (commands.Get d r i) (replies.Got value stamp) = goes_on_put _ g number d _
+goes_on_said : (g : Graph) (number : ℕ) (command : Command) (reply : Reply) → GoesOn (command ≢ commands.Leave) (most_made command) (most_stamped command) (graph_seat g number) (graph_seat (after_reply g number command reply) number)
+goes_on_said g number (commands.New d fields) (replies.Made id) = goes_on_add _ _ g number d (fresh false fields)
+goes_on_said g number (commands.Array d cells) (replies.Made id) = goes_on_add _ _ g number d (fresh true cells)
+goes_on_said g number (commands.Get d r i) (replies.Got value stamp) = goes_on_put _ _ _ g number d _
 goes_on_said g number (commands.Set r i v) (replies.Was stamp) =
-    goes_on_then _ (graph_seat g number) (graph_seat (count_set g number) number) _ (goes_on_with _ g number _ record { present = λ there. refl; made = omega arith; set_more = omega arith })
+    goes_on_then _ _ _ (graph_seat g number) (graph_seat (count_set g number) number) _ (goes_on_with _ _ _ g number _ record { present = λ there. refl; made = omega arith; set_more = omega arith })
     (same_counts_write (count_set g number) number (register_value g number r) i _)
-goes_on_said g number (commands.Num d n) reply = goes_on_put _ g number d _
-goes_on_said g number (commands.Nil d) reply = goes_on_put _ g number d _
-goes_on_said g number (commands.Copy d r) reply = goes_on_put _ g number d _
-goes_on_said g number commands.Leave reply = goes_on_with _ g number _ record { present = λ other. absurd (other refl); made = omega arith; set_more = omega arith }
-goes_on_said g number command reply = goes_on_same _ (graph_seat g number)
+goes_on_said g number (commands.Num d n) reply = goes_on_put _ _ _ g number d _
+goes_on_said g number (commands.Nil d) reply = goes_on_put _ _ _ g number d _
+goes_on_said g number (commands.Copy d r) reply = goes_on_put _ _ _ g number d _
+goes_on_said g number commands.Leave reply = goes_on_with _ _ _ g number _ record { present = λ other. absurd (other refl); made = omega arith; set_more = omega arith }
+goes_on_said g number command reply = goes_on_same _ _ _ (graph_seat g number)
+
+-- none makes more than one object or uses up more than one stamp
+pub call_makes_one_at_most : (command : Command) → most_made command ≤ 1
+call_makes_one_at_most (commands.New d fields) = omega arith
+call_makes_one_at_most (commands.Array d cells) = omega arith
+call_makes_one_at_most _ = omega arith
+
+pub call_stamps_once_at_most : (command : Command) → most_stamped command ≤ 1
+call_stamps_once_at_most (commands.Set r i v) = omega arith
+call_stamps_once_at_most _ = omega arith
 
 pub each_call_counts : EachCallCounts
 each_call_counts old new command reply adds =
     let seat : own_graph_seat new ≡ graph_seat (after_reply (own_graph old) old.number command reply) old.number =
     ap (λ g. graph_seat g new.number) (each_call_grows old new command reply adds) ∙ ap (graph_seat (after_reply (own_graph old) old.number command reply)) adds.number in
-    let goes = subst (GoesOn (command ≢ commands.Leave) (own_graph_seat old)) (sym seat) (goes_on_said (own_graph old) old.number command reply) in
+    let goes = subst (GoesOn (command ≢ commands.Leave) (most_made command) (most_stamped command) (own_graph_seat old)) (sym seat) (goes_on_said (own_graph old) old.number command reply) in
     record { present_stays = goes.present; made_more = goes.made; sets_more = goes.set_more }
 
 -- another seat in one position leaves those in the others

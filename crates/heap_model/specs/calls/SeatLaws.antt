@@ -1,7 +1,7 @@
 -- What is true of every seat, and what follows of how its calls add entries.
 use Rattle.std.specs.Prelude.{◌≡◌, ◌≢◌, ℕ, ◌+◌, ◌*◌, ◌<◌, ◌≤◌, false, List, length, All}
 use Rattle.heap_model.specs.declared.command.Command.{Command}
-use Rattle.heap_model.specs.declared.command.Command.TheVariants.{Leave}
+use Rattle.heap_model.specs.declared.command.Command.TheVariants.{New, Array, Set, Leave}
 use Rattle.heap_model.specs.declared.entry.Entry.{Entry}
 use Rattle.heap_model.specs.declared.entry.Entry.TheVariants.{Said, Takes, GivesBack, Answers}
 use Rattle.heap_model.specs.declared.id.Id.TheVariants.{Board}
@@ -48,11 +48,22 @@ BoardStays = (seat : SeatState) → IsSeat seat → (own_graph_seat seat).left �
 abbrev pub EachCallGrows : Type 0
 EachCallGrows = (old new : SeatState) (command : Command) (reply : Reply) → Adds old new command reply → own_graph new ≡ after_reply (own_graph old) old.number command reply
 
--- only a leave makes the seat leave, and the call makes one object at most and does one set at most
+-- how many objects a call of the command makes at most
+abbrev pub most_made : Command → ℕ
+most_made (New d fields) = 1
+most_made (Array d cells) = 1
+most_made _ = 0
+
+-- how many stamps of the seat a call of the command uses up at most
+abbrev pub most_stamped : Command → ℕ
+most_stamped (Set r i v) = 1
+most_stamped _ = 0
+
+-- only a leave makes the seat leave, only a call that makes an object counts one, and only a set counts a set
 pub record CountsUp (old new : SeatState) (command : Command) : Type 0 where
   pub present_stays : command ≢ Leave → (own_graph_seat new).left ≡ (own_graph_seat old).left
-  pub made_more : length (own_graph_seat new).objects ≤ length (own_graph_seat old).objects + 1
-  pub sets_more : (own_graph_seat new).sets ≤ (own_graph_seat old).sets + 1
+  pub made_more : length (own_graph_seat new).objects ≤ length (own_graph_seat old).objects + most_made command
+  pub sets_more : (own_graph_seat new).sets ≤ (own_graph_seat old).sets + most_stamped command
 
 -- each call counts up by no more than that
 abbrev pub EachCallCounts : Type 0
