@@ -1,1 +1,2 @@
+pub mod Debt
 pub mod Slack

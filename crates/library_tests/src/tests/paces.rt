@@ -3,7 +3,7 @@
 use super::comparing::same;
 use super::cycling::Cycling;
 use heap_model::{CollectorCalls, Turn};
-use slack_pace::{Pace, Paces, SlackDone, Steady, slack};
+use slack_pace::{Debt, Pace, Paces, SlackDone, Steady, slack};
 use std::test::Fail;
 
 // The collector waits in its phases 2, 3 and 4 by its sixth turn, its tenth and its fourteenth. How many turns are made where none waits is tested in heap_runs.
@@ -45,6 +45,25 @@ fn asks_steadily(rt: HostRuntime) -> Result<(), Fail> {
         (u64::MAX, 4096),
     ] {
         same(&rt, &paces.steady.turns(claimed), &asked, &claimed);
+    }
+    Ok(())
+}
+
+// A debt of 64 turns a fragment: what it asks for by each claim, and what it owes behind it.
+#[test]
+fn owes_what_it_asks_for_later(rt: HostRuntime) -> Result<(), Fail> {
+    let mut debt = Debt::make(64);
+    for (claimed, asked, owed) in [
+        (0, 0, 0),
+        (100, 4096, 2304),
+        (0, 2304, 0),
+        (64, 4096, 0),
+        (1, 64, 0),
+        (u64::MAX, 4096, 0x7fff_ffff_ffff_f000),
+        (u64::MAX, 4096, 0x7fff_ffff_ffff_f000),
+    ] {
+        same(&rt, &debt.turns(claimed), &asked, &claimed);
+        same(&rt, &debt.owed, &owed, &claimed);
     }
     Ok(())
 }
