@@ -78,5 +78,5 @@ module _ (heap : Heap) (state : State) (book : Book) (rule : Rule heap state boo
       (all_words_are_stored heap state.words seat.body (newborn_word_of number seat) seat.stored has.1 stands.own.stored)
       (listed_word_names_payload heap state.words book.spine_owner number seat stands.own.spine has.3 has.0.makes.an_object has.2)
       k source x position.0 (subst (λ y. WordPointsTo heap state.words y source x) (sym position.1) leads) in
-      let own = body_fragment_is_own book.owner number seat.reserve seat.hand seat.body stands.own.holding next.point next.within in
+      let own = body_fragment_is_own book.owner number seat.reserve seat.hand seat.body stands.own.holding next.position next.within in
       own_is_alive number (book.owner x) (subst (λ y. IsOwn number (book.owner y)) (sym next.is) own)

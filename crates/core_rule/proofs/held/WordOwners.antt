@@ -138,7 +138,7 @@ module _ (heap : Heap) (state : State) (book : Book) (rule : Rule heap state boo
         let position = element_stands_at_position f seat.body (fragment_is_in_body heap state book rule number f bears) in
         by_command seat.command refl has.0.makes.an_object has.0.makes.in_range has.3 position.0
         (λ part within. subst (λ x. at heap state.words (Word x part) ≡ newborn_word_of number seat k part) position.1
-        (all_words_are_stored heap state.words seat.body (newborn_word_of number seat) seat.stored has.1 (rule.seats_stand number here).own.stored k part point.0 within))
+        (all_words_are_stored heap state.words seat.body (newborn_word_of number seat) seat.stored has.1 (rule.seats_stand number here).own.stored k part position.0 within))
 
   -- so the spine of what is held is an array's, or that of a seat which has borne it
   pub held_word_is_spined_or_borne : IsOfHeld heap state half offset → IsSpined ⊎ ((number : ℕ) × (f : ℕ) × (book.owner f ≡ Borne number) × IsInHandOf state number half offset)
