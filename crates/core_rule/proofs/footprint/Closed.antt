@@ -1,5 +1,5 @@
 -- What is inside stays so as the graph grows: a register holds what is inside, and a cell of what is inside does.
-use Rattle.std.proofs.Common.{◌≡◌, ℕ, ◌⊎◌, inl, inr, Bool, true, is_some, List, [], ◌∷◌, ◌++◌, Contains, sym, ap, ◌∙◌, subst}
+use Rattle.std.proofs.Common.{◌≡◌, ℕ, ◌⊎◌, inl, inr, Bool, true, is_some, List, [], ◌∷◌, ◌++◌, sym, ap, ◌∙◌, subst}
 use Rattle.std.proofs.lemmas.Bool.{cases_Bool, both_ways}
 use Rattle.std.proofs.lemmas.List.Sums.{fold-append}
 use Rattle.core_rule.proofs.Terms.{graph_of, begins_cycle, up_to_cycle, since_cycle, Entry, Heap, Id, Graph, opening, after_entry, graph_after, AcceptsAll, IsObjectLegal, node}
@@ -10,7 +10,7 @@ use Rattle.core_rule.specs.footprint.Footprint.{is_inside}
 use Rattle.core_rule.proofs.footprint.Inside.{begun_is_inside, later_made_is_inside, inside_made_is_begun}
 use Rattle.core_rule.proofs.growth.EntryGrowth.{grows_by_entry}
 use Rattle.core_rule.proofs.growth.Growing.{CameFrom, was_held, was_read, was_unmade, GrowsFrom, holder_is_made}
-use Rattle.core_rule.proofs.growth.LaterGraphs.{made_stays_after_entry, accepts_later, unreached_stays_so}
+use Rattle.core_rule.proofs.growth.LaterGraphs.{made_stays_after_entry, accepts_later}
 use Rattle.core_rule.proofs.growth.RegisterIds.{RegisterHolds, register_id_is_root}
 
 -- registers hold what is inside, and so do cells of what is inside

@@ -1,7 +1,7 @@
 -- What the collector comes to by a turn that begins no phase is inside, and what it counts is right.
 use Rattle.std.specs.Prelude.{if◌then◌else◌}
 use Rattle.std.proofs.Common.{◌≡◌, ℕ, ◌+◌, ◌%◌, ◌==◌, inl, inr, true, false, nat_lt, Bool, List, Option, Some, None, refl, sym, ap, ◌∙◌, subst, arith}
-use Rattle.core_rule.proofs.Terms.{cycle_phases, Heap, Id, graph_of, phase, up_to_cycle, Graph, IsReach, turn_at, first_work, after_last_look, after_counted_look, after_look}
+use Rattle.core_rule.proofs.Terms.{cycle_phases, Heap, Id, graph_of, phase, up_to_cycle, IsReach, turn_at, first_work, after_last_look, after_counted_look, after_look}
 use Rattle.core_rule.proofs.Terms.{has_answered_of, IsScanning, IsIndexing, IsClearing, Stage, Control, Word, State, found_by, pointer_in, payload_in, at, spine_place, Book, Grey}
 use Rattle.core_rule.proofs.Terms.{id_at, WordPointsTo, IsKeptFragment, ScanStands, Kept, Rule}
 use Rattle.heap_model.specs.PhasePlan.{clearing as clearing_phase}

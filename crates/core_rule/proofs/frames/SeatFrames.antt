@@ -1,5 +1,5 @@
 -- What stays of a seat at another's step: all of it, where that leaves what the seat has, what it names and what is told of it.
-use Rattle.std.proofs.Common.{◌≡◌, ℕ, ◌<◌, false, List, [], ◌∷◌, ◌++◌, length, filter, drop, get_or, refl, sym, ap, ◌∙◌, subst, arith}
+use Rattle.std.proofs.Common.{◌≡◌, ℕ, ◌<◌, false, List, [], ◌∷◌, ◌++◌, length, filter, drop, get_or, refl, sym, ◌∙◌, subst, arith}
 use Rattle.heap_words.specs.declared.spot.Spot.{Spot}
 use Rattle.core_rule.proofs.Terms.{Entry, Heap, Id, graph_of, is_of, register_value, phase, last_answer, has_left, spent_of, taken_of, Graph, Point, Register}
 use Rattle.core_rule.proofs.Terms.{Seat, Book, SeatInCycle, IsStored, GathersRight, Began, UsedStands, node_at, IsKept, Owner, SpineOwner, Registers, AddressStands, NamesStand}

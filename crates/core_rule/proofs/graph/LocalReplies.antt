@@ -1,6 +1,6 @@
 -- The replies of calls that look at no word: what they are to the graph, and that they may stand.
 use Rattle.std.proofs.Common.{◌≡◌, ℕ, ◌≤◌, Bool, true, false, List, length, set, Option, None, refl, sym, subst, arith}
-use Rattle.core_rule.proofs.Terms.{Command, Entry, Heap, Id, Value, Reply, most_kept, with_register, after_reply, made_by, graph_seat, register_value, target_node, cell_or_refusal, unset}
+use Rattle.core_rule.proofs.Terms.{Command, Entry, Heap, Id, Reply, most_kept, with_register, after_reply, made_by, graph_seat, register_value, target_node, cell_or_refusal, unset}
 use Rattle.core_rule.proofs.Terms.{Graph, Node, Register, IsLocal, register_in, value_of, is_same_value, register_head, Owner, HoldsValue}
 use Rattle.heap_model.specs.declared.command.Command.TheVariants as commands
 use Rattle.heap_model.specs.declared.id.Value.TheVariants as values

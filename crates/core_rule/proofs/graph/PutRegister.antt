@@ -1,5 +1,5 @@
 -- A seat's register gets another value: the graph after it, and what the registers hold.
-use Rattle.std.proofs.Common.{◌≡◌, ◌≢◌, ℕ, ◌<◌, false, length, get_or, set, refl, ap, ◌∙◌, inl, inr, List, slice_index_or, slice_set, sym, subst}
+use Rattle.std.proofs.Common.{◌≡◌, ◌≢◌, ℕ, ◌<◌, false, length, inl, inr, List, slice_index_or, slice_set, sym, subst}
 use Rattle.std.proofs.lemmas.Bool.{cases_eq}
 use Rattle.std.proofs.lemmas.List.{get_or-set_same, get_or-set_other}
 use Rattle.core_rule.proofs.Terms.{Id, with_register, graph_seat, register_value, Graph, Register, Owner, HoldsValue}

@@ -1,10 +1,10 @@
 -- Which ids the registers of a graph hold: those of its roots.
-use Rattle.std.proofs.Common.{◌≡◌, ◌≢◌, ℕ, inl, inr, List, length, get_or, Contains, sym, ap, ◌∙◌, subst, arith}
+use Rattle.std.proofs.Common.{◌≡◌, ℕ, inl, inr, List, length, get_or, ap, ◌∙◌, subst, arith}
 use Rattle.std.proofs.lemmas.Bool.{cases_lt}
 use Rattle.std.proofs.lemmas.List.{get_or_past, get_or_default}
 use Rattle.std.proofs.lemmas.List.Elements.{Contains-get_or}
 use Rattle.core_rule.proofs.Terms.{Id, Graph, graph_seat, register_value, absent_graph_seat, IsRoot, unset, IsRegistered}
-use Rattle.heap_model.specs.declared.id.Value.TheVariants.{Nil, Object}
+use Rattle.heap_model.specs.declared.id.Value.TheVariants.{Object}
 use Rattle.heap_model.specs.graph.Graph.{GraphSeat}
 use Rattle.heap_model.specs.declared.graph.cell.Cell.{Cell}
 use Rattle.std.specs.List.{Any}

@@ -2,7 +2,7 @@
 use Rattle.std.proofs.Common.{◌≡◌, ℕ, zero, suc, ◌<◌, Bool, true, false, ◌⊎◌, inl, inr, List, ◌∷◌, length, get_or, set, replicate, Option, Some, IsSomeAnd, refl, sym, ap, ◌∙◌, subst, arith}
 use Rattle.std.proofs.lemmas.Bool.{cases_eq}
 use Rattle.std.proofs.lemmas.List.{get_or-replicate, length-replicate}
-use Rattle.core_rule.proofs.Terms.{Id, Made, Value, with_graph_seat, with_register, add, leave, Graph, Node, fresh, unset, graph_seat, register_value, node, IsMade, PointsTo}
+use Rattle.core_rule.proofs.Terms.{Id, Made, with_graph_seat, with_register, add, leave, Graph, Node, fresh, unset, graph_seat, register_value, node, IsMade, PointsTo}
 use Rattle.core_rule.proofs.Terms.{Points}
 use Rattle.heap_model.specs.declared.id.Value.TheVariants.{Nil, Object}
 use Rattle.heap_model.specs.Limits.{register_count}

@@ -1,10 +1,7 @@
 -- Fragment 0 is the board's first one, and nothing else.
-use Rattle.std.proofs.Common.{◌≡◌, ◌≢◌, ℕ, ◌<◌, inl, inr, List, length, refl, sym, ap, ◌∙◌, subst, arith}
+use Rattle.std.proofs.Common.{◌≡◌, ◌≢◌, ℕ, ◌<◌, List, length, sym, ap, ◌∙◌, subst, arith}
 use Rattle.heap_words.specs.declared.spot.Spot.{Spot}
-use Rattle.core_rule.proofs.Terms.{Heap, Id, Graph, tally, fragment_at, Holding, Objects, IsKept, Owner, Kept, IsBoards, OwnersStand}
-use Rattle.core_rule.proofs.hand.Bodies.{body_is_own}
-use Rattle.core_rule.proofs.owners.Handed.{none_or_some}
-use Rattle.core_rule.proofs.owners.OwnerLemmas.{IsOwn, own_is_not_boards}
+use Rattle.core_rule.proofs.Terms.{Heap, Id, Graph, fragment_at, Objects, IsKept, Owner, Kept, IsBoards, OwnersStand}
 
 module _ (seats : ℕ) (owner : ℕ → Owner) (owners : OwnersStand seats owner) where
   -- a fragment that is number k of object number i is 0 where both are

@@ -1,6 +1,6 @@
 -- What a seat has by its owner stands in the lists of a seat that there is.
-use Rattle.std.proofs.Common.{◌≡◌, ℕ, ◌+◌, ◌<◌, ◌≤◌, List, [], ◌∷◌, refl, ap, ◌∙◌, subst, arith}
-use Rattle.core_rule.proofs.Terms.{Heap, tally, State, seat_at, Book, Holding, Owner, Taken, Borne, IsSeated, holds_bit, bears_bit, Rule}
+use Rattle.std.proofs.Common.{◌≡◌, ℕ, ◌<◌, ◌≤◌, List, [], ◌∷◌, refl, ap, ◌∙◌, subst, arith}
+use Rattle.core_rule.proofs.Terms.{Heap, tally, State, seat_at, Book, Holding, Owner, Borne, IsSeated, bears_bit, Rule}
 use Rattle.core_rule.proofs.hand.Bodies.{body_tally_is_hand_and_borne}
 use Rattle.core_rule.proofs.hand.HandMoves.{is_not_borne_by_seat}
 use Rattle.core_rule.proofs.lists.Tallies.{one_at_same_is_one}

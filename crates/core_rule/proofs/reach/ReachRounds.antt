@@ -1,6 +1,6 @@
 -- Whether an object is reached is decided in as many rounds as there are objects, and one more.
 use Rattle.std.specs.Option.{IsSomeAnd}
-use Rattle.std.proofs.Common.{◌≡◌, ℕ, zero, suc, ◌≤◌, ◌⊎◌, inl, inr, List, length, Option, None, Some, IsSome, Any, Contains, refl, subst, arith}
+use Rattle.std.proofs.Common.{◌≡◌, ℕ, zero, suc, ◌≤◌, ◌⊎◌, inl, inr, List, length, Option, None, Some, IsSome, Any, refl, arith}
 use Rattle.std.proofs.lemmas.Bool.{false≢true}
 use Rattle.core_rule.proofs.Terms.{Id, Value, Graph, Node, node, IsMade, IsRegistered, PointsTo, Points, IsRoot, Reaches, from_register, from_cell}
 use Rattle.heap_model.specs.declared.id.Value.TheVariants.{Nil, Number, Object}

@@ -1,6 +1,6 @@
 -- What a step adds to the history may stand in a play, where no other seat made a step since the call began.
 use Rattle.std.specs.List.{list_all}
-use Rattle.std.proofs.Common.{◌≡◌, ◌≢◌, ℕ, ◌+◌, ◌%◌, ◌^◌, ◌<◌, ◌≤◌, true, false, List, [], ◌∷◌, ◌++◌, length, drop, refl, sym, ◌∙◌, subst, arith}
+use Rattle.std.proofs.Common.{◌≡◌, ℕ, ◌+◌, ◌%◌, ◌^◌, ◌<◌, ◌≤◌, true, false, List, [], ◌∷◌, ◌++◌, length, drop, refl, sym, ◌∙◌, subst, arith}
 use Rattle.std.proofs.lemmas.Bool.{eq-eqb}
 use Rattle.core_rule.proofs.Terms.{Command, Entry, Heap, KeepsSpace, is_of, words_granted, words_returned, phase, Withdrawing, Refusing, Point, SeatIsRefusing, State, seat_at}
 use Rattle.core_rule.proofs.Terms.{full_entry, spine_full_entry, Seat, need, spine_need, Book, GathersRight, IsBehindNow, Rule}

@@ -9,7 +9,6 @@ use Rattle.core_rule.proofs.Terms.{register_value}
 use Rattle.heap_model.specs.declared.account.effect.Effect.{Effect}
 use Rattle.heap_model.specs.declared.command.Command.TheVariants as commands
 use Rattle.heap_model.specs.declared.entry.Entry.TheVariants as entries
-use Rattle.heap_model.specs.declared.id.Value.TheVariants as values
 use Rattle.heap_model.specs.declared.reply.Reply.TheVariants as replies
 use Rattle.heap_model.specs.graph.Graph.{GraphSeat}
 use Rattle.heap_model.proofs.Histories.{graph_after-more}

@@ -1,7 +1,6 @@
 -- A scan goes on with few spine words, and ends with few steps.
-use Rattle.std.specs.Prelude.{IfSome}
-use Rattle.std.proofs.Common.{◌≡◌, ℕ, ◌+◌, ◌*◌, ◌≤◌, Option, Some, None, arith}
-use Rattle.core_machine.specs.collector.Marking.{scan_step, scan_at, after_first_load, spine_scan_at}
+use Rattle.std.proofs.Common.{◌≡◌, ℕ, ◌+◌, ◌*◌, ◌≤◌, arith}
+use Rattle.core_machine.specs.collector.Marking.{scan_at, spine_scan_at}
 use Rattle.core_machine.specs.declared.collector.stage.Scan.{Scan}
 use Rattle.core_machine.specs.declared.collector.stage.SpineScan.{SpineScan}
 use Rattle.core_machine.proofs.collector_lemmas.SpineTurns.{spine_scan_cases}

@@ -5,13 +5,12 @@ use Rattle.std.proofs.lemmas.Bool.{cases_lt}
 use Rattle.std.proofs.lemmas.List.{get_or_past}
 use Rattle.std.proofs.lemmas.Option.{slice_get_within}
 use Rattle.heap_words.specs.declared.spot.Spot.{Spot}
-use Rattle.core_rule.proofs.Terms.{spot_in, Heap, Id, Value, Graph, Node, fragments_of, fragments_at, spine_words_of, Word, at, spine_place, FitsSpot, link_of, length_of}
+use Rattle.core_rule.proofs.Terms.{spot_in, Heap, Id, Value, Graph, Node, fragments_of, spine_words_of, Word, at, spine_place, FitsSpot, link_of, length_of}
 use Rattle.core_rule.proofs.Terms.{array_length_of, payload_in, id_of, spine_words_in, record_meta, array_meta, field_of, Seat, fragment_at, id_at, object_head, Bits, AreMade}
 use Rattle.core_rule.proofs.Terms.{Objects, KeptObject, NamesKept, IsKept, IsSized, node_at, cells_at, value_word, Owner, Kept, Finds, row_in, field_part}
 use Rattle.heap_model.specs.declared.graph.cell.Cell.{Cell}
 use Rattle.heap_model.specs.declared.id.Value.TheVariants as values
 use Rattle.heap_model.specs.Heap.{IsHeap}
-use Rattle.core_rule.proofs.graph.SameNodes.{made_node_has_size}
 use Rattle.heap_model.proofs.graph_changes.Shapes.{node_cases}
 use Rattle.core_rule.proofs.objects.ObjectWords.{object_word_is_record_meta, object_word_is_link, object_word_is_array_meta, object_word_is_spot, object_word_is_name, object_word_is_cell}
 use Rattle.core_rule.proofs.ways.ArrayWords.{array_length_in-meta, length_in-array_meta, spine_words_in-meta, spot_in-word, payload_in-word}

@@ -2,7 +2,7 @@
 use Rattle.std.proofs.Common.{◌≡◌, ℕ, ◌+◌, ◌-◌, ◌*◌, ◌/◌, ◌%◌, ◌<◌, true, inl, inr, length, refl, arith}
 use Rattle.std.proofs.lemmas.Bool.{lt-ltb}
 use Rattle.std.proofs.lemmas.Bool.Decides.{eqb_tells}
-use Rattle.core_rule.proofs.Terms.{record_fragments, Node, fragments_of, spine_words_of, row_of, part_of, is_cell, row_in, field_part}
+use Rattle.core_rule.proofs.Terms.{Node, fragments_of, spine_words_of, row_of, part_of, is_cell, row_in, field_part}
 use Rattle.heap_model.proofs.graph_changes.Shapes.{node_cases}
 
 -- the field of a row and a part

@@ -3,7 +3,7 @@ use Rattle.std.proofs.Common.{◌≡◌, ℕ, inl, inr, List, [], ◌∷◌, ◌
 use Rattle.heap_model.specs.declared.id.Id.{Id}
 use Rattle.heap_model.specs.declared.id.Id.TheVariants.{Made}
 use Rattle.heap_model.specs.declared.id.Value.{Value}
-use Rattle.heap_model.specs.declared.id.Value.TheVariants.{Nil, Object}
+use Rattle.heap_model.specs.declared.id.Value.TheVariants.{Object}
 use Rattle.heap_model.specs.declared.command.Command.{Command}
 use Rattle.heap_model.specs.declared.command.Command.TheVariants as commands
 use Rattle.heap_model.specs.declared.reply.Reply.{Reply}

@@ -10,7 +10,7 @@ use Rattle.heap_model.specs.declared.heap.Heap.{Heap}
 use Rattle.heap_model.specs.declared.id.Id.{Id}
 use Rattle.heap_model.specs.declared.id.Id.TheVariants.{Board}
 use Rattle.heap_model.specs.declared.id.Value.{Value}
-use Rattle.heap_model.specs.declared.id.Value.TheVariants.{Nil, Object}
+use Rattle.heap_model.specs.declared.id.Value.TheVariants.{Object}
 use Rattle.heap_model.specs.declared.graph.cell.Cell.{Cell}
 use Rattle.heap_model.specs.declared.command.Command.{Command}
 use Rattle.heap_model.specs.declared.command.Command.TheVariants as commands

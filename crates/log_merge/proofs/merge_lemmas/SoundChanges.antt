@@ -6,7 +6,6 @@ use Rattle.std.proofs.lemmas.List.{get_or-set_same, get_or-set_other, set_past}
 use Rattle.std.proofs.lemmas.List.Elements.{All-nil, All-cons, All-weaker, All-replicate}
 use Rattle.heap_model.specs.Limits.{stamp_limit, register_count}
 use Rattle.heap_model.specs.declared.id.Id.TheVariants.{Made}
-use Rattle.heap_model.specs.declared.id.Value.{Value}
 use Rattle.heap_model.specs.declared.id.Value.TheVariants.{Nil, Number, Object}
 use Rattle.heap_model.specs.declared.graph.cell.Cell.{Cell}
 use Rattle.heap_model.specs.declared.command.Command.{Command}

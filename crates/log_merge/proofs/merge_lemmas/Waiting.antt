@@ -20,7 +20,7 @@ use Rattle.log_merge.specs.Merging.{is_in_log, part_of, left_of, HasGet, WaitsFo
 use Rattle.log_merge.specs.PendingGets.{is_kind}
 use Rattle.log_merge.specs.Registers.{opening_registers, registers_after, registers_of, kind_of, get_of, gets_in}
 use Rattle.log_merge.specs.Placing.{IsCompletion, count_in, count_left, replaced_by}
-use Rattle.log_merge.proofs.merge_lemmas.Changes.{Own, own, values_of, value_of_register}
+use Rattle.log_merge.proofs.merge_lemmas.Changes.{own, values_of, value_of_register}
 use Rattle.log_merge.proofs.merge_lemmas.Places.{look}
 use Rattle.log_merge.proofs.merge_lemmas.Sound.{set_stands_at_cell}
 use Rattle.log_merge.proofs.merge_lemmas.Finding.{Writes}
