@@ -14,18 +14,19 @@ def is_number_within(word: str, least: int, largest: int) -> bool:
     return number is not None and least <= number <= largest
 
 
-def options_of(words: list[str], allowed: tuple[str, ...]) -> set[str] | None:
-    """The options that these words are, each once at most."""
-    found: set[str] = set()
+def options_of(words: list[str], allowed: tuple[str, ...]) -> dict[str, str] | None:
+    """The options that these words are, each once at most, with their values."""
+    found: dict[str, str] = {}
     left = iter(words)
     for word in left:
         if word not in allowed or word in found:
             return None
-        if word == "--pace" and next(left, None) != "steady":
+        value = next(left, "") if word in ("--pace", "--patience") else ""
+        if word == "--pace" and value not in ("steady", "debt"):
             return None
-        if word == "--patience" and not is_number_within(next(left, ""), 1, MOST_PATIENCE):
+        if word == "--patience" and not is_number_within(value, 1, MOST_PATIENCE):
             return None
-        found.add(word)
+        found[word] = value
     return found
 
 
@@ -55,7 +56,7 @@ def answer_words(words: list[str], text: bytes) -> Answer | None:
         return answer_make(rest)
     if form == "play":
         options = options_of(rest, ("--pace", "--brief"))
-        return usage() if options is None else answer_play(text, "--pace" in options, "--brief" in options)
+        return usage() if options is None else answer_play(text, options.get("--pace"), "--brief" in options)
     if form == "run":
         options = options_of(rest, ("--locked", "--patience", "--pace"))
         return usage() if options is None else answer_run(text)

@@ -9,7 +9,25 @@ from .texts import LONGEST_SCRIPT, Answer, Refused, done, refused, text_of, too_
 
 STEADY_TURNS = 16
 TURNS_A_FRAGMENT = 8
-MOST_STEADY_TURNS = 4_096
+DEBT_A_FRAGMENT = 64
+MOST_OWED = 2**63
+MOST_TURNS = 4_096
+
+
+class Pace:
+    """For how many turns is asked behind each line of a seat: a pace by its name, or none."""
+
+    def __init__(self, name: str | None):
+        self.name = name
+        self.owed = 0
+
+    def turns(self, taken: int) -> int:
+        if self.name == "steady":
+            return min(STEADY_TURNS + TURNS_A_FRAGMENT * taken, MOST_TURNS)
+        due = min(self.owed + DEBT_A_FRAGMENT * taken, MOST_OWED)
+        asked = min(due, MOST_TURNS)
+        self.owed = due - asked
+        return asked
 
 
 class Machine:
@@ -65,24 +83,25 @@ class Machine:
             else:
                 return reply
 
-    def steady_turns(self, told: int) -> None:
+    def paced_turns(self, pace: Pace, told: int) -> None:
         """The turns behind a seat's line, whose entries stand from this position on."""
         taken = sum(entry.values[0] for entry in self.body[told:] if isinstance(entry, Did) and entry.kind == "takes")
-        self.turns(min(STEADY_TURNS + TURNS_A_FRAGMENT * taken, MOST_STEADY_TURNS))
+        self.turns(pace.turns(taken))
 
     def space(self) -> Space:
         heap = self.table.heap
         return Space(self.table.taken(), heap.fragments, self.table.words[GRANTED], heap.spine)
 
 
-def play(script: Script, steady: bool) -> History:
+def play(script: Script, pace_name: str | None) -> History:
     """The history of a play."""
     machine = Machine(script.heap)
+    pace = Pace(pace_name)
     for command in script.commands:
         told = len(machine.body)
         machine.answer(command)
-        if steady and command.party != COLLECTOR:
-            machine.steady_turns(told)
+        if pace_name and command.party != COLLECTOR:
+            machine.paced_turns(pace, told)
     machine.body.append(machine.space())
     for seat in machine.seats:
         machine.answer(Command(seat.number, LEAVE, ()))
@@ -111,12 +130,12 @@ def brief(history: History) -> list[str]:
     ]
 
 
-def answer_play(text: bytes, steady: bool, in_brief: bool) -> Answer:
+def answer_play(text: bytes, pace_name: str | None, in_brief: bool) -> Answer:
     """What `play` answers to this input."""
     if len(text) > LONGEST_SCRIPT:
         return too_long()
     try:
-        history = play(read_script(text, True), steady)
+        history = play(read_script(text, True), pace_name)
     except Refused as fault:
         return refused(fault)
     return done(text_of(brief(history) if in_brief else history.lines()))

@@ -20,6 +20,7 @@ OBJECTS = """0 new 1 9
 """
 POLLS = "0 poll\n1 poll\n"
 STEADY = ["play", "--pace", "steady"]
+DEBT = ["play", "--pace", "debt"]
 
 
 def turn_by_turn(random: Random) -> str:
@@ -68,4 +69,5 @@ def worked_plays() -> list[tuple[list[str], bytes]]:
     cases = [(["play"], turn_by_turn(Random(f"turns {number}"))) for number in range(8)]
     cases += [(["play"], phase_by_phase(k, answered)) for k in range(7) for answered in (True, False) if k or answered]
     cases += [(["play"], wants_space()), (STEADY, wants_space()), (STEADY, long_pace())]
+    cases += [(DEBT, wants_space()), (DEBT, long_pace())]
     return [(words, text.encode()) for words, text in cases]

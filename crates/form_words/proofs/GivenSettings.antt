@@ -7,7 +7,7 @@ use Rattle.std.specs.Option.{option_map_or}
 use Rattle.std.specs.Str.Parse.{digits_value}
 use Rattle.std.proofs.lemmas.Fmt.{decimal_is_IsNumeral}
 use Rattle.heap_model.specs.Command.{IsWithin}
-use Rattle.form_words.specs.declared.pace.PaceName.TheVariants.{Steady}
+use Rattle.form_words.specs.declared.pace.PaceName.TheVariants.{Steady, Debt}
 use Rattle.form_words.specs.declared.setting.Settings.{Settings}
 use Rattle.form_words.specs.Settings.{Brief, Locked, Pace, Patience, Setting, most_patience, no_settings, with_setting, setting_words, IsKnownSetting, AddSettings, GiveSettings}
 
@@ -22,7 +22,7 @@ plain_settings = (codes "--brief", Brief) ∷ (codes "--locked", Locked) ∷ []
 -- each setting that is a word with a value behind it
 abbrev valued_settings : List ℕ → List (List ℕ × Setting)
 valued_settings value =
-    (codes "--pace", Pace (unwrap_or (lookup (bytes_eq value) ((codes "steady", Steady) ∷ [])) Steady))
+    (codes "--pace", Pace (unwrap_or (lookup (bytes_eq value) ((codes "steady", Steady) ∷ (codes "debt", Debt) ∷ [])) Steady))
     ∷ (codes "--patience", Patience (digits_value 10 value))
     ∷ []
 
@@ -35,6 +35,7 @@ given_by (value ∷ rest) (Some word) = option_map_or (λ setting. setting ∷ g
 -- the words of a setting give it, and then what the words behind them do
 given_by-setting : (setting : Setting) (rest : List (List ℕ)) → IsKnownSetting setting → given_by (setting_words setting ++ rest) None ≡ setting ∷ given_by rest None
 given_by-setting (Pace Steady) rest fits = refl
+given_by-setting (Pace Debt) rest fits = refl
 given_by-setting Brief rest fits = refl
 given_by-setting Locked rest fits = refl
 given_by-setting (Patience n) rest fits = ap (λ m. Patience m ∷ given_by rest None) (digits_value-decimal n (omega (arith, fits.1)))

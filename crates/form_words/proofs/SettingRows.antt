@@ -9,7 +9,7 @@ use Rattle.std.proofs.lemmas.Bool.{eqb-true}
 use Rattle.std.proofs.lemmas.Fmt.{decimal_is_IsNumeral}
 use Rattle.clap.specs.Walk.{Row, Rule, Text, has_row}
 use Rattle.form_words.specs.Joined.{is_joined}
-use Rattle.form_words.specs.declared.pace.PaceName.TheVariants.{Steady}
+use Rattle.form_words.specs.declared.pace.PaceName.TheVariants.{Steady, Debt}
 use Rattle.form_words.specs.declared.setting.Settings.{Settings}
 use Rattle.form_words.specs.Settings.{AddSettings, Brief, IsKnownSetting, Locked, Pace, Patience, Setting, has, no_settings, pace_word, setting_words, with_setting}
 use Rattle.form_words.proofs.OptionSteps.{row_of_words}
@@ -131,6 +131,7 @@ number_is_loose n small = numeral_loose (decimal n) (decimal_is_IsNumeral n smal
 
 spelled : (x : Setting) → IsKnownSetting x → AreSpelled (given_of x)
 spelled (Pace Steady) fits = (record { no_end = refl; named = refl; apart = refl }, record { no_end = refl; no_name = refl; no_letters = refl }, refl)
+spelled (Pace Debt) fits = (record { no_end = refl; named = refl; apart = refl }, record { no_end = refl; no_name = refl; no_letters = refl }, refl)
 spelled Brief fits = record { no_end = refl; named = refl; apart = refl }
 spelled Locked fits = record { no_end = refl; named = refl; apart = refl }
 spelled (Patience n) fits =
@@ -175,6 +176,7 @@ pub record IsGrown (c : List Rule) (rows : List Row) (given : List Setting) (all
 
 words_of : (x : Setting) (rest rest' : List Text) → rest ≡ rest' → given_words (given_of x) ++ rest ≡ setting_words x ++ rest'
 words_of (Pace Steady) rest rest' e = ap (λ ws. codes "--pace" ∷ codes "steady" ∷ ws) e
+words_of (Pace Debt) rest rest' e = ap (λ ws. codes "--pace" ∷ codes "debt" ∷ ws) e
 words_of Brief rest rest' e = ap (λ ws. codes "--brief" ∷ ws) e
 words_of Locked rest rest' e = ap (λ ws. codes "--locked" ∷ ws) e
 words_of (Patience n) rest rest' e = ap (λ ws. codes "--patience" ∷ decimal n ∷ ws) e

@@ -8,7 +8,7 @@ use Rattle.std.proofs.lemmas.Slice.Eq.{bytes_eq-Decides}
 use Rattle.clap.specs.Walk.{Row, Rule, Text, first_of, has_row}
 use Rattle.heap_model.specs.Command.{IsWithin}
 use Rattle.form_words.specs.declared.pace.PaceName.{PaceName}
-use Rattle.form_words.specs.declared.pace.PaceName.TheVariants.{Steady}
+use Rattle.form_words.specs.declared.pace.PaceName.TheVariants.{Steady, Debt}
 use Rattle.form_words.specs.declared.setting.Settings.{Settings}
 use Rattle.form_words.specs.Settings.{AddSettings, Brief, IsKnownSetting, Locked, Pace, Patience, Setting, has, most_patience, pace_word, setting_words, with_setting}
 use Rattle.form_words.proofs.OptionSteps.{row_of_words}
@@ -85,9 +85,12 @@ not_given before rows (Patience n) shows none = sym (has_row_is_some_row (codes 
 
 same_pace : (a b : Option PaceName) → option_map pace_word a ≡ option_map pace_word b → a ≡ b
 same_pace None None e = refl
-same_pace None (Some Steady) e = cc
-same_pace (Some Steady) None e = cc
+same_pace None (Some name) e = cc
+same_pace (Some name) None e = cc
 same_pace (Some Steady) (Some Steady) e = refl
+same_pace (Some Steady) (Some Debt) e = cc
+same_pace (Some Debt) (Some Steady) e = cc
+same_pace (Some Debt) (Some Debt) e = refl
 
 same_number : (n m : ℕ) → n < 2 ^ 64 → m < 2 ^ 64 → decimal n ≡ decimal m → n ≡ m
 same_number n m small small' e = sym (decimal_is_IsNumeral n small).1 ∙ ap (digits_value 10) e ∙ (decimal_is_IsNumeral m small').1
@@ -122,6 +125,7 @@ known_more before (Patience n) known fits = fits
 
 words_of_setting : (x : Setting) → given_words (given_of x) ≡ setting_words x
 words_of_setting (Pace Steady) = refl
+words_of_setting (Pace Debt) = refl
 words_of_setting Brief = refl
 words_of_setting Locked = refl
 words_of_setting (Patience n) = refl

@@ -3,7 +3,7 @@ use Rattle.std.specs.Prelude.{◌≡◌, ℕ, Bool, true, false, List, [], ◌�
 use Rattle.std.specs.List.{flat_map}
 use Rattle.heap_model.specs.Command.{IsWithin}
 use Rattle.form_words.specs.declared.pace.PaceName.{PaceName}
-use Rattle.form_words.specs.declared.pace.PaceName.TheVariants.{Steady}
+use Rattle.form_words.specs.declared.pace.PaceName.TheVariants.{Steady, Debt}
 use Rattle.form_words.specs.declared.setting.Settings.{Settings}
 
 -- what may stand behind the word of a form, in any order and each kind once at most
@@ -20,6 +20,7 @@ most_patience = 1000000
 -- the word that names a pace
 abbrev pub pace_word : PaceName → List ℕ
 pace_word Steady = codes "steady"
+pace_word Debt = codes "debt"
 
 -- the words of a setting
 abbrev pub setting_words : Setting → List (List ℕ)

@@ -7,6 +7,8 @@ ghost use Rattle.form_words.specs.declared.pace.PaceName.{PaceName as APaceName}
 pub enum PaceName {
     /// So many turns behind each line of a seat, and some more for each fragment that it claimed.
     Steady,
+    /// Turns for each fragment that a line claimed alone; those that can't be asked for at once are owed.
+    Debt,
 }
 
 impl PaceName {
@@ -17,6 +19,7 @@ impl PaceName {
     {
         match word {
             "steady" => Some(PaceName::Steady),
+            "debt" => Some(PaceName::Debt),
             _ => None,
         }
     }

@@ -79,6 +79,17 @@ fn made_script_text(alloc: Global, start: u32, seats: u8, lines: u32) -> Result<
     Ok(text)
 }
 
+/// The pace that the words name.
+fn chosen(paces: Paces, name: PaceName) -> Box<dyn Pace>
+    ensures steady { name ≡ PaceName.Steady → result ≡ paces.steady }
+    ensures debt { name ≡ PaceName.Debt → result ≡ paces.debt }
+{
+    match name {
+        PaceName::Steady => paces.steady,
+        PaceName::Debt => paces.debt,
+    }
+}
+
 /// What a work comes to of which nothing is left but its text.
 fn text_alone(text: Vec<u8>) -> Made
     ensures text { result.text.items ≡ text.items }
@@ -110,18 +121,18 @@ pub fn made_work<G: Gate, R: Threads + Wait + Sync>(
             Ok(text_alone(text))
         }
         Work::Play {
-            pace: Some(PaceName::Steady),
+            pace: Some(pace),
             brief,
         } => {
-            let text = played_text(alloc, input, Some(paces.steady), brief)?;
+            let text = played_text(alloc, input, Some(chosen(paces, pace)), brief)?;
             Ok(text_alone(text))
         }
         Work::Run {
             locked: false,
-            pace: PaceName::Steady,
+            pace,
             patience,
         } => {
-            let run = run_on_table(rt, alloc, &input, paces.steady, patience, gate)?;
+            let run = run_on_table(rt, alloc, &input, chosen(paces, pace), patience, gate)?;
             Ok(Made {
                 text: run.text,
                 closed: Some(run.closed),
@@ -129,10 +140,10 @@ pub fn made_work<G: Gate, R: Threads + Wait + Sync>(
         }
         Work::Run {
             locked: true,
-            pace: PaceName::Steady,
+            pace,
             patience,
         } => {
-            let text = run_text(rt, alloc, &input, paces.steady, patience, gate)?;
+            let text = run_text(rt, alloc, &input, chosen(paces, pace), patience, gate)?;
             Ok(text_alone(text))
         }
         Work::Check => {

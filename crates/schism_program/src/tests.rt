@@ -25,7 +25,7 @@ use heap_model::{Gate, OpenGate};
 use heap_table::Closed;
 use io_edge::{MemSink, MemSource, NeverSink, NeverSource, Sink, Source};
 use script_text::Cause;
-use slack_pace::{Paces, Steady};
+use slack_pace::{Debt, Paces, Steady};
 use std::alloc::{AllocError, Global};
 use std::process::Abort;
 use std::sync::Wait;
@@ -59,13 +59,14 @@ fn ended_with<S: Source, K: Sink, G: Gate>(
 }
 
 // The paces of the program.
-fn steady(alloc: Global) -> Result<Paces, AllocError> {
+fn usual(alloc: Global) -> Result<Paces, AllocError> {
     Ok(Paces {
         steady: Box::new(alloc, Steady)?,
+        debt: Box::new(alloc, Debt::make(64))?,
     })
 }
 
-// What comes of the words at the steady pace, where no seat is held back.
+// What comes of the words at the program's paces, where no seat is held back.
 fn status_of<S: Source, K: Sink>(
     rt: &(impl Threads + Wait + Sync),
     alloc: Global,
@@ -73,7 +74,7 @@ fn status_of<S: Source, K: Sink>(
     source: &mut S,
     sink: &mut K,
 ) -> Result<Status, AllocError> {
-    let paces = steady(alloc)?;
+    let paces = usual(alloc)?;
     Ok(ended_with(rt, alloc, words, source, sink, &OpenGate, paces, &mut None))
 }
 
@@ -110,14 +111,14 @@ fn told_at<G: Gate>(
     Ok((status, Vec::from_slice(alloc, sink.bytes().unwrap_or(&[]))?))
 }
 
-// The same at the steady pace, where no seat is held back.
+// The same at the program's paces, where no seat is held back.
 fn told(
     rt: &(impl Threads + Wait + Sync),
     alloc: Global,
     line: &str,
     text: &[u8],
 ) -> Result<(Status, Vec<u8>), AllocError> {
-    told_at(rt, alloc, line, text, &OpenGate, steady(alloc)?)
+    told_at(rt, alloc, line, text, &OpenGate, usual(alloc)?)
 }
 
 // What was written, where the words in the line are done.

@@ -26,4 +26,5 @@ pub trait Pace: Send + Drop {
 #[derive(Drop)]
 pub struct Paces {
     pub steady: Box<dyn Pace>,
+    pub debt: Box<dyn Pace>,
 }

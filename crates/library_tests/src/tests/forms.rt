@@ -23,6 +23,8 @@ const NO_FORMS: [&str; 49] = [
     "play --pace debt",
     "play --pace --brief steady",
     "play --pace=steady",
+    "play --pace debts",
+    "play --pace steady --pace debt",
     "play --brief=",
     "play -- --brief",
     "play --brief --",
@@ -70,27 +72,38 @@ const SPACED: [&[&str]; 5] = [
 
 const STEADY: Option<PaceName> = Some(PaceName::Steady);
 
+const DEBT: Option<PaceName> = Some(PaceName::Debt);
+
 /// Words of plays, each with the pace and whether the brief alone is told.
-const PLAYS: [(&str, Option<PaceName>, bool); 5] = [
+const PLAYS: [(&str, Option<PaceName>, bool); 7] = [
     ("play", None, false),
     ("play --brief", None, true),
     ("play --pace steady", STEADY, false),
     ("play --brief --pace steady", STEADY, true),
     ("play --pace steady --brief", STEADY, true),
+    ("play --pace debt", DEBT, false),
+    ("play --brief --pace debt", DEBT, true),
 ];
 
-/// Words of runs, each with whether it is locked and with its patience.
-const RUNS: [(&str, bool, u32); 6] = [
-    ("run", false, 1_000),
-    ("run --locked", true, 1_000),
-    ("run --pace steady", false, 1_000),
-    ("run --patience 1", false, 1),
+/// Words of runs, each with the pace, whether it is locked, and its patience.
+const RUNS: [(&str, PaceName, bool, u32); 7] = [
+    ("run", PaceName::Steady, false, 1_000),
+    ("run --locked", PaceName::Steady, true, 1_000),
+    ("run --pace steady", PaceName::Steady, false, 1_000),
+    ("run --patience 1", PaceName::Steady, false, 1),
     (
         "run --patience 1000000 --pace steady --locked",
+        PaceName::Steady,
         true,
         1_000_000,
     ),
-    ("run --locked --patience 1000 --pace steady", true, 1_000),
+    (
+        "run --locked --patience 1000 --pace debt",
+        PaceName::Debt,
+        true,
+        1_000,
+    ),
+    ("run --pace debt", PaceName::Debt, false, 1_000),
 ];
 
 /// Words by which a script is made, each with the three numbers.
@@ -126,9 +139,9 @@ fn asks_for_the_work_of_a_form(rt: HostRuntime) -> Result<(), Fail> {
         same(&rt, &asked(alloc, line), &Ok(Some(work)), &line);
         same(&rt, &work.most_bytes(), &Some(1_048_576), &line);
     }
-    for (line, locked, patience) in RUNS {
+    for (line, pace, locked, patience) in RUNS {
         let work = Work::Run {
-            pace: PaceName::Steady,
+            pace,
             locked,
             patience,
         };

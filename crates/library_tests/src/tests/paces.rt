@@ -35,6 +35,7 @@ fn makes_turns_up_to_one_that_waits(rt: HostRuntime) -> Result<(), Fail> {
 fn asks_steadily(rt: HostRuntime) -> Result<(), Fail> {
     let mut paces = Paces {
         steady: Box::new(rt.alloc(), Steady)?,
+        debt: Box::new(rt.alloc(), Debt::make(64))?,
     };
     for (claimed, asked) in [
         (0, 16),

@@ -1,4 +1,4 @@
-//! The forms of the words after the program's name: plays at a steady pace, briefs, and scripts that are made.
+//! The forms of the words after the program's name: plays at a pace, briefs, and scripts that are made.
 
 use super::comparing::tells;
 use super::{FIRST, ended, told, written};
@@ -10,12 +10,14 @@ use std::test::Fail;
 use std::thread::Threads;
 
 /// Words, and the status to which they come where the first call of each side would fail: so neither side is touched where it is Usage.
-const STATUSES: [(&[&str], Status); 9] = [
+const STATUSES: [(&[&str], Status); 11] = [
     (&[], Status::Usage),
     (&["plays"], Status::Usage),
     (&[" play"], Status::Usage),
     (&["play", "--locked"], Status::Usage),
     (&["play", "--pace", "steady", "--brief"], Status::ReadFault),
+    (&["play", "--pace", "debt", "--brief"], Status::ReadFault),
+    (&["play", "--pace", "debts"], Status::Usage),
     (&["run", "--locked", "--patience", "1"], Status::ReadFault),
     (&["check"], Status::ReadFault),
     (&["make", "0", "1", "0"], Status::WriteFault),
@@ -91,5 +93,17 @@ fn plays_at_a_steady_pace(rt: HostRuntime) -> Result<(), Fail> {
     let wanted =
         "history 1 play\nheap 3 0 2\n1 takes 16\n1 new 1 47 = 1.0\nc phase 1\n0 answers 1\n0 poll = 1\n1 answers 1\n1 poll = 1\nc phase 2\n0 answers 2\n0 poll = 2\n1 answers 2\n1 poll = 2\nc phase 3\n0 answers 3\n0 poll = 3\n1 answers 3\n1 poll = 3\n0 num 2 9 = ok\n0 takes 5\n0 takes 16\n0 new 1 47 = 0.0\nc phase 4\n0 nil 2 = ok\nspace used 48 of 48 spine 0 of 0\n0 gives back 5\n0 leave = ok\n1 leave = ok\nc phase 5\nc phase 6\nc ends 0 kept 43\nc phase 8\nc phase 9\nc phase 10\nc phase 11\nc phase 12\nc frees 16\nc frees 16\nc frees 11\nc phase 13\nc ends 1 kept 0\nend used 0\n";
     writes(&rt, alloc, "play --pace steady", script, wanted.as_bytes())?;
+    Ok(())
+}
+
+// A debt asks for no turn behind the num, and for 320 behind the new, which claims five fragments: the first of these begins phase 1, and the second waits for the seat. At
+// the steady pace phase 1 would begin behind the num.
+#[test]
+fn plays_at_the_pace_of_a_debt(rt: HostRuntime) -> Result<(), Fail> {
+    let alloc = rt.alloc();
+    let script = b"schism 1\nheap 1 0 1\n0 num 1 1\n0 new 2 1\n";
+    let wanted =
+        "history 1 play\nheap 1 0 1\n0 num 1 1 = ok\n0 takes 5\n0 new 2 1 = 0.0\nc phase 1\nspace used 16 of 16 spine 0 of 0\n0 gives back 4\n0 leave = ok\nc phase 2\nc phase 3\nc phase 4\nc phase 5\nc frees 12\nc phase 6\nc ends 0 kept 0\nc phase 8\nc phase 9\nc phase 10\nc phase 11\nc phase 12\nc phase 13\nc ends 1 kept 0\nend used 0\n";
+    writes(&rt, alloc, "play --pace debt", script, wanted.as_bytes())?;
     Ok(())
 }

@@ -8,7 +8,7 @@ mod past_pace;
 
 use super::comparing::{holds, tells};
 use super::several_seats::text_of;
-use super::{refused, steady, told, told_at, when_done, written};
+use super::{refused, told, told_at, usual, when_done, written};
 use gates::{OneAfterTheOther, TwoAtOnce};
 use heap_model::{Gate, OpenGate};
 use judging::{begins_line, has_line, judge};
@@ -33,7 +33,7 @@ fn ran<G: Gate>(
     gate: &G,
 ) -> Result<Vec<u8>, Fail> {
     let script = text_of(alloc, script)?;
-    let told = told_at(rt, alloc, line, script.as_bytes(), gate, steady(alloc)?)?;
+    let told = told_at(rt, alloc, line, script.as_bytes(), gate, usual(alloc)?)?;
     let history = when_done(rt, told, line);
     written(rt, alloc, "check", &history)?;
     judge_locked(alloc, line, &history)?;

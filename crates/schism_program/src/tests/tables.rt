@@ -1,7 +1,7 @@
 //! Which works leave the table that they ran on.
 
 use super::comparing::holds;
-use super::{ended_with, steady};
+use super::{ended_with, usual};
 use heap_model::OpenGate;
 use heap_table::Closed;
 use io_edge::{NeverSink, NeverSource};
@@ -35,7 +35,7 @@ fn leaves(
     let words: Vec<&str> = line.split(' ').collect(alloc)?;
     let source = &mut NeverSource::new(Vec::from_slice(alloc, text.as_bytes())?);
     let sink = &mut NeverSink::new(Vec::with_capacity(alloc, 4096)?);
-    let paces = steady(alloc)?;
+    let paces = usual(alloc)?;
     ended_with(rt, alloc, &words, source, sink, &OpenGate, paces, closed);
     Ok(closed.is_some())
 }

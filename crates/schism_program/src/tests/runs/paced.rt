@@ -2,7 +2,7 @@
 
 use super::gates::{Passes, comes_to};
 use heap_model::Gate;
-use slack_pace::{Pace, Paces};
+use slack_pace::{Pace, Paces, Steady};
 use std::alloc::{AllocError, Global};
 use std::sync::Arc;
 use std::sync::atomic::{AtomicU64, Ordering};
@@ -63,6 +63,7 @@ impl Paced {
         )?;
         let paces = Paces {
             steady: Box::new(alloc, Telling(asked.clone()?))?,
+            debt: Box::new(alloc, Steady)?,
         };
         let gate = Paced {
             asked,

@@ -2,7 +2,7 @@
 
 use super::gates::comes_to;
 use heap_model::Gate;
-use slack_pace::{Pace, Paces};
+use slack_pace::{Pace, Paces, Steady};
 use std::alloc::{AllocError, Global};
 use std::sync::Arc;
 use std::sync::atomic::{AtomicU64, Ordering};
@@ -53,6 +53,7 @@ impl PastThePace {
         )?;
         let paces = Paces {
             steady: Box::new(alloc, Waiting(flags.clone()?))?,
+            debt: Box::new(alloc, Steady)?,
         };
         Ok((PastThePace(flags), paces))
     }
