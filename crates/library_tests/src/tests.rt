@@ -1,5 +1,6 @@
 //! What the libraries up to log_merge answer to their public calls.
 
+mod call_steps;
 mod checks;
 mod comparing;
 mod cycling;
@@ -9,7 +10,6 @@ mod interleavings;
 mod machine;
 mod merges;
 mod paces;
-mod call_steps;
 mod scripts;
 mod streams;
 mod table;

@@ -4,8 +4,8 @@ ghost use Rattle.std.specs.Prelude.{◌≡◌, IfOk};
 ghost use Rattle.heap_model.specs.Heap.{IsHeap};
 ghost use Rattle.library_tests.specs.SameSeat.{IsSameSeat};
 
-use super::comparing::{holds, same};
 use super::call_steps::make_long_record;
+use super::comparing::{holds, same};
 use core_machine::Log;
 use heap_model::{Command, Entry, Heap, Memory, Reply};
 use heap_table::{Closed, CollectorHolder, HeapTable, Holder};

@@ -76,7 +76,9 @@ pub(super) fn fault_in(
     requires { IsHeap heap }
 {
     for (position, log) in closed.logs().iter().enumerate() {
-        let party = u8::try_from(position).ok().filter(|&seat| seat < heap.seats);
+        let party = u8::try_from(position)
+            .ok()
+            .filter(|&seat| seat < heap.seats);
         if !has_told(told, party, log.as_slice()) {
             return Ok(Some(Fault::OtherLog(position)));
         }
