@@ -47,6 +47,16 @@ returns-in-Ok-write_all-clause-closed g c = λ done.
       leaves = subst (LeavesTable c.in-Ok-Some.work input text) (sym c.leave-in-Ok-write_all.ensures) leaves;
     }
 
+pub returns-in-Ok-write_all-clause-done : goal.returns-in-Ok-write_all-clause-done
+returns-in-Ok-write_all-clause-done g c = λ done. record {
+  work = c.in-Ok-Some.work;
+  input = c.in-Ok.input.items;
+  text = c.in-Ok-made_work.made.text.items;
+  reads = record { asked = search rules; all = c.in-Ok.ensures.read; short = search rules };
+  makes = search rules;
+  written = search rules;
+}
+
 pub returns-clause-front : goal.returns-clause-front
 returns-clause-front g c = λ fault. record {
   work = c.in-Ok-Some.work;
