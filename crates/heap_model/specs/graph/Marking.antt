@@ -62,7 +62,7 @@ IsFound m (Number n) = Unit {0}
 IsFound m (Object id) = IsSome (mark_of m id) → HasMark m id
 
 -- the list has exactly the marked ids before this one, in their order
-pub record IsListed (m : Marking) (position : Id) (ids : List Id) : Type 0 where
+pub record IsListed (m : Marking) (bound : Id) (ids : List Id) : Type 0 where
   pub ordered : AllPairs IsBefore ids
-  pub marked : (id : Id) → Contains ids id → HasMark m id × IsBefore id position
-  pub whole : (id : Id) → HasMark m id → IsBefore id position → Contains ids id
+  pub marked : (id : Id) → Contains ids id → HasMark m id × IsBefore id bound
+  pub whole : (id : Id) → HasMark m id → IsBefore id bound → Contains ids id

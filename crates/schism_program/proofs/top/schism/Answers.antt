@@ -2,6 +2,7 @@ use Rattle.std.proofs.Common.{◌≤◌, length, map, inl, rules, subst, sym}
 use Rattle.form_words.specs.Works.{most_bytes, AskFor}
 use Rattle.schism_program.specs.declared.status.Status.TheVariants as statuses
 use Rattle.schism_program.specs.Due.{IsDueTo}
+use Rattle.schism_program.specs.Outcome.{IsRead, Writes}
 use Rattle.schism_program.specs.Works.{FailsAt, LeavesTable, MakesText}
 use Rattle.schism_program.proofs.OneStatus.{made_input_suits_work, only_one_status_is_due}
 use Rattle.schism_program.proofs.top.schism.Goals as goal
@@ -47,22 +48,21 @@ returns-in-Ok-write_all-clause-closed g c = λ done.
       leaves = subst (LeavesTable c.in-Ok-Some.work input text) (sym c.leave-in-Ok-write_all.ensures) leaves;
     }
 
-pub returns-in-Ok-write_all-clause-done : goal.returns-in-Ok-write_all-clause-done
-returns-in-Ok-write_all-clause-done g c = λ done. record {
-  work = c.in-Ok-Some.work;
-  input = c.in-Ok.input.items;
-  text = c.in-Ok-made_work.made.text.items;
-  reads = record { asked = search rules; all = c.in-Ok.ensures.read; short = search rules };
-  makes = search rules;
-  written = search rules;
+-- what was read makes the text that was written
+writes : ∀ {IsWritten words left left'} work input text.
+  AskFor words work → IsRead work left left' input → length input ≤ most_bytes work →
+  MakesText work input text → IsWritten text → Writes IsWritten words left left'
+writes work input text asked all short makes written = record {
+  work = work;
+  input = input;
+  text = text;
+  reads = record { asked = asked; all = all; short = short };
+  makes = makes;
+  written = written;
 }
 
+pub returns-in-Ok-write_all-clause-done : goal.returns-in-Ok-write_all-clause-done
+returns-in-Ok-write_all-clause-done g c = λ done. writes c.in-Ok-Some.work c.in-Ok.input.items c.in-Ok-made_work.made.text.items (search rules) c.in-Ok.ensures.read (search rules) (search rules) (search rules)
+
 pub returns-clause-front : goal.returns-clause-front
-returns-clause-front g c = λ fault. record {
-  work = c.in-Ok-Some.work;
-  input = c.in-Ok.input.items;
-  text = c.in-Ok-made_work.made.text.items;
-  reads = record { asked = search rules; all = c.in-Ok.ensures.read; short = search rules };
-  makes = search rules;
-  written = search rules;
-}
+returns-clause-front g c = λ fault. writes c.in-Ok-Some.work c.in-Ok.input.items c.in-Ok-made_work.made.text.items (search rules) c.in-Ok.ensures.read (search rules) (search rules) (search rules)
