@@ -1,4 +1,5 @@
-use Rattle.std.proofs.Common.{◌≤◌, length, map, inl, rules, subst, sym}
+use Rattle.std.proofs.Common.{◌≤◌, ℕ, List, Option, length, map, inl, rules, subst, sym}
+use Rattle.form_words.specs.declared.work.Work.{Work}
 use Rattle.form_words.specs.Works.{most_bytes, AskFor}
 use Rattle.schism_program.specs.declared.status.Status.TheVariants as statuses
 use Rattle.schism_program.specs.Due.{IsDueTo}
@@ -49,9 +50,7 @@ returns-in-Ok-write_all-clause-closed g c = λ done.
     }
 
 -- what was read makes the text that was written
-writes : ∀ {IsWritten words left left'} work input text.
-  AskFor words work → IsRead work left left' input → length input ≤ most_bytes work →
-  MakesText work input text → IsWritten text → Writes IsWritten words left left'
+writes : {IsWritten : List ℕ → Type 0} → {words : List (List ℕ)} → {left left' : Option (List ℕ)} → (work : Work) → (input text : List ℕ) → AskFor words work → IsRead work left left' input → length input ≤ most_bytes work → MakesText work input text → IsWritten text → Writes IsWritten words left left'
 writes work input text asked all short makes written = record {
   work = work;
   input = input;
