@@ -55,15 +55,15 @@ module _ (heap : Heap) (number : ℕ) (within : number < heap.seats) (one : heap
       elim (Contains-append_cases (before ++ began.front) (begin_of cycle ∷ began.back) (Ends cycle ended.0) (subst (λ es. Contains es (Ends cycle ended.0)) whole ended.1)) [
         | inl early ↦ absurd (ends_later cycle ended.0 (before ++ began.front) began.back (subst (IsLegal heap true) whole legal) early)
         | inr late ↦ (
-          let at = contained_is_at (begin_of cycle ∷ began.back) (Ends cycle ended.0) late in
-          let end = end_is_behind cycle cycle ended.0 began.back at.front at.back at.parts in record {
-            cycle = cycle;
-            before = began.front;
-            within = end.front;
-            kept = ended.0;
-            behind = end.back;
-            parts = began.parts ∙ ap (λ es. began.front ++ begin_of cycle ∷ es) end.parts;
-          })
+            let at = contained_is_at (begin_of cycle ∷ began.back) (Ends cycle ended.0) late in
+            let end = end_is_behind cycle cycle ended.0 began.back at.front at.back at.parts in record {
+              cycle = cycle;
+              before = began.front;
+              within = end.front;
+              kept = ended.0;
+              behind = end.back;
+              parts = began.parts ∙ ap (λ es. began.front ++ begin_of cycle ∷ es) end.parts;
+            })
       ]
 
   -- there is no other seat to wait for, so a cycle is told
