@@ -4,3 +4,5 @@ pub mod LosesNothing
 pub mod Writes
 pub mod SeatEvents
 pub mod Distinct
+pub mod Lefts
+pub mod CopyTurns
