@@ -6,3 +6,8 @@ pub mod SeatEvents
 pub mod Distinct
 pub mod Lefts
 pub mod CopyTurns
+pub mod MarkingTurns
+pub mod PhaseTurns
+pub mod SweepTurns
+pub mod Turns
+pub mod Runs

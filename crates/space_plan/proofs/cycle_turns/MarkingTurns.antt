@@ -1,15 +1,15 @@
 -- Each turn of marking leaves fewer turns of the cycle.
 use Rattle.std.specs.Int.{bit_at}
+use Rattle.std.specs.Prelude.{if◌then◌else◌}
 use Rattle.std.proofs.Common.{◌≡◌, ℕ, suc, ◌+◌, ◌-◌, ◌*◌, ◌/◌, ◌<◌, ◌≤◌, Bool, true, false, List, Option, Some, None, inl, inr, refl, ap, ◌∙◌, subst, bit_or, arith}
 use Rattle.std.proofs.lemmas.Bool.Decides.{eqb_tells, leb_tells}
 use Rattle.std.proofs.lemmas.Nat.Bits.{bit_at-lt}
-use Rattle.core_rule.proofs.Terms.{blacken_bit_of, control_of, marked_at, scanned_at, Heap, IsBlackening, IsPassing, IsScanning, IsShading, IsAddressing, IsIndexing, IsSpreading, Stage, State, Control, Word, Spine, pointer_in, payload_in, spine_words_in, at, put}
-use Rattle.core_rule.proofs.Terms.{Book, Colour, Grey, IsSeen, IsSeenWhole, IsSpineOf, Marks, marked_bit, scanned_bit, Rule, found_by, turn_at, state_after_turn}
+use Rattle.core_rule.proofs.Terms.{blacken_bit_of, control_of, marked_at, scanned_at, Heap, IsBlackening, IsPassing, IsScanning, IsShading, IsAddressing, IsIndexing, IsSpreading, Stage, State, Control, Word, Spine, is_meta, pointer_in, payload_in, spine_words_in, at, put}
+use Rattle.core_rule.proofs.Terms.{Book, Colour, Grey, IsSeen, IsSeenWhole, IsSpineOf, WordPointsTo, MayMark, Marks, marked_bit, scanned_bit, Rule, found_by, turn_at, state_after_turn}
 use Rattle.core_machine.specs.collector.Marking.{lowest_grey_of, after_last_group, after_group, after_pass, part_after, scan_step, scan_at, after_scan_load, array_at, after_first_load, spine_step, spine_scan_at, after_address, after_spread}
 use Rattle.core_machine.specs.declared.collector.stage.Scan.{Scan}
 use Rattle.core_machine.specs.declared.collector.stage.SpineScan.{SpineScan}
 use Rattle.core_machine.specs.declared.collector.stage.Stage.TheVariants as stages
-use Rattle.core_machine.proofs.collector_lemmas.ScanTurn.{after_part}
 use Rattle.core_machine.proofs.collector_lemmas.SpineTurns.{spine_scan_cases}
 use Rattle.core_machine.proofs.table_lemmas.Addresses.{put_of_read_changes_nothing}
 use Rattle.core_machine.proofs.table_lemmas.Grey.{grey_position_within_group}
@@ -21,7 +21,7 @@ use Rattle.core_rule.proofs.marking.Scans.{scan_cases}
 use Rattle.space_plan.specs.cycle_turns.ToldWords.{where_set, told_words, scanned_words}
 use Rattle.space_plan.specs.cycle_turns.CycleLeft.{passes_left, scan_left, left_in_phase, cycle_left_at, cycle_left}
 use Rattle.space_plan.proofs.cycle_turns.Distinct.{scanned_words_fit}
-use Rattle.space_plan.proofs.cycle_turns.Lefts.{StageLeavesFewer, fewer_left_at_stage, fewer_left_in_words_after, turn_loses_nothing, fits_stage}
+use Rattle.space_plan.proofs.cycle_turns.Lefts.{StageLeavesFewer, fewer_left_at_stage, fewer_left_in_words_after, turn_loses_nothing}
 use Rattle.space_plan.proofs.cycle_turns.LosesNothing.{LosesNothing, fewer_passes_left, scan_left_falls}
 use Rattle.space_plan.proofs.cycle_turns.Sums.{where_set_is_number, where_set_grows, where_unset_is_none, sum_grows_at}
 
@@ -52,6 +52,17 @@ flip_is_left groups fragments spine_words group again below = by (fragments * (g
   where
     by : (m : ℕ) → 1 < m + 2 * spine_words + (groups - group) + again + 1
     by m = omega (arith, below)
+
+-- a later word comes after this one
+later_part : (part word : ℕ) → part < part_after part word
+later_part part word = elim (eqb_tells part 0) as (λ _. part < part_after part word) [
+  | inl first ↦ rw first.0 (by (is_meta word) first.1)
+  | inr behind ↦ rw behind.0 (omega arith)
+]
+  where
+    by : (b : Bool) → part ≡ 0 → part < (if b then 2 else 1)
+    by true first = omega (arith, first)
+    by false first = omega (arith, first)
 
 module _ (heap : Heap) (phase looked : ℕ) (words : List ℕ) where
   -- so many turns are left at a stage
@@ -171,7 +182,7 @@ scanning_leaves_fewer scan heap state book rule scanning stepped =
     let word : ℕ = at heap state.words (Word scan.fragment scan.part) in
     rw (put_of_read_changes_nothing heap state.words (Word scan.fragment scan.part))
     (fewer_left_at_stage heap state (stages.Scanning scan) scanning state.words state.collector.looked (after_first_load scan (array_at scan.part word) (part_after scan.part word) (pointer_in scan.part word))
-    (first_load_leaves heap state.collector.phase state.collector.looked state.words scan (array_at scan.part word) (part_after scan.part word) (pointer_in scan.part word) (after_part scan.part word fits.part_within).0 fits.part_within))
+    (first_load_leaves heap state.collector.phase state.collector.looked state.words scan (array_at scan.part word) (part_after scan.part word) (pointer_in scan.part word) (later_part scan.part word) fits.part_within))
 
 pub shading_leaves_fewer : (scan : Scan) (target next : ℕ) → StageLeavesFewer (stages.Shading scan target next)
 shading_leaves_fewer scan target next heap state book rule shading stepped =
@@ -195,7 +206,8 @@ indexing_leaves_fewer s heap state book rule indexing stepped =
 pub spreading_leaves_fewer : (s : SpineScan) (target : ℕ) → StageLeavesFewer (stages.Spreading s target)
 spreading_leaves_fewer s target heap state book rule spreading stepped =
     let fits : IsSpreading heap state.collector.phase state.collector.looked s target = rw spreading at rule.machine.collector_fit.at_stage in
-    let seen : IsSeen heap state.words book.colour s.scan.fragment (4 + s.index) × IsSpineOf heap state.words s = scanned_so_far in
+    let seen : IsSeen heap state.words book.colour s.scan.fragment (4 + s.index) × IsSpineOf heap state.words s × WordPointsTo heap state.words s.scan.fragment (4 + s.index) target × MayMark book.owner book.colour book.fragments target
+    = rw spreading at rule.marks_stand.heap_marks.scan in
     let left = spine_is_left heap state book rule s fits.on.fragment_within seen.0.grey seen.1 in
     let now : List ℕ = (state_after_turn heap state (turn_at heap state.collector (stages.Spreading s target))).words in
     let keeps : LosesNothing heap state.words now = turn_loses_nothing heap state (stages.Spreading s target) spreading book rule tt in
@@ -205,9 +217,6 @@ spreading_leaves_fewer s target heap state book rule spreading stepped =
     (word_behind_leaves heap state.collector.phase state.collector.looked state.words s.scan s.index (s.index + 1) (omega arith) (omega (arith, left.1, fits.on.index_within))))
     (λ done. below_then heap state.collector.phase state.collector.looked now _ _ _ (scan_left_falls heap state.words now keeps s.scan s.words (told_words heap now s.scan.fragment) 1 (omega (arith, left.0, keeps.told s.scan.fragment fits.on.fragment_within)))
     (word_behind_leaves heap state.collector.phase state.collector.looked state.words s.scan s.index s.words fits.on.index_within left.1)))
-  where
-    scanned_so_far : IsSeen heap state.words book.colour s.scan.fragment (4 + s.index) × IsSpineOf heap state.words s
-    scanned_so_far = let stands = rw spreading at rule.marks_stand.heap_marks.scan in (stands.0, stands.1)
 
 -- a blacken scans one more fragment
 pub blackening_leaves_fewer : (scan : Scan) → StageLeavesFewer (stages.Blackening scan)
@@ -235,4 +244,4 @@ blackening_leaves_fewer scan heap state book rule blackening stepped =
     by m n less = omega (arith, less)
 
 pub flipping_leaves_fewer : StageLeavesFewer stages.Flipping
-flipping_leaves_fewer heap state book rule flipping stepped = fewer_left_at_stage heap state stages.Flipping flipping _ state.collector.looked stages.Advancing (omega arith)
+flipping_leaves_fewer heap state book rule flipping stepped = fewer_left_at_stage heap state stages.Flipping flipping (state_after_turn heap state (turn_at heap state.collector stages.Flipping)).words state.collector.looked stages.Advancing (omega arith)
