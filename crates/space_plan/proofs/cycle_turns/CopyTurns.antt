@@ -22,7 +22,8 @@ use Rattle.core_rule.proofs.copies.VisitsOn.{copying_stands_from_stage}
 use Rattle.core_rule.proofs.lists.SumLemmas.{sum-suc}
 use Rattle.core_rule.proofs.turns.NextPositions.{next_position_is_not_before, next_position_within_group}
 use Rattle.space_plan.specs.cycle_turns.ToldWords.{told_words, fragments_told, fragments_before}
-use Rattle.space_plan.specs.cycle_turns.CycleLeft.{visits_left, behind_visit, copying_left, left_in_phase, cycle_left_at, cycle_left}
+use Rattle.space_plan.specs.cycle_turns.CopyingLeft.{visits_left, behind_visit, copying_left}
+use Rattle.space_plan.specs.cycle_turns.CycleLeft.{left_in_phase, cycle_left_at, cycle_left}
 use Rattle.space_plan.proofs.cycle_turns.Distinct.{told_before_fit}
 use Rattle.space_plan.proofs.cycle_turns.Lefts.{StageLeavesFewer, fewer_left_at_stage, fewer_left_in_words_after}
 use Rattle.space_plan.proofs.cycle_turns.Sums.{where_set_is_number, fragments_of_some_told, sum_of_more}

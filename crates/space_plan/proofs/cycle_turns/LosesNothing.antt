@@ -13,7 +13,9 @@ use Rattle.core_machine.specs.declared.collector.stage.Visit.{Visit}
 use Rattle.core_rule.specs.turns.TurnsLeft.{scanned_count}
 use Rattle.core_rule.proofs.lists.SumLemmas.{sum_le}
 use Rattle.space_plan.specs.cycle_turns.ToldWords.{told_words, scanned_words, fragments_before}
-use Rattle.space_plan.specs.cycle_turns.CycleLeft.{passes_left, scan_left, visits_left, behind_visit, copying_left, left_in_phase, phases_left, cycle_left_at}
+use Rattle.space_plan.specs.cycle_turns.CopyingLeft.{visits_left, behind_visit, copying_left}
+use Rattle.space_plan.specs.cycle_turns.CycleLeft.{left_in_phase, phases_left, cycle_left_at}
+use Rattle.space_plan.specs.cycle_turns.MarkingLeft.{passes_left, scan_left}
 use Rattle.space_plan.proofs.cycle_turns.Sums.{where_set_grows, fragments_told_grow}
 
 -- no fragment of the heap loses its scanned bit, and none tells fewer spine words

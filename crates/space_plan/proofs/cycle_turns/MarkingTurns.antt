@@ -19,7 +19,8 @@ use Rattle.core_rule.proofs.lists.SumLemmas.{sum_ones}
 use Rattle.core_rule.proofs.marking.GreyPositions.{lowest_is_grey}
 use Rattle.core_rule.proofs.marking.Scans.{scan_cases}
 use Rattle.space_plan.specs.cycle_turns.ToldWords.{where_set, told_words, scanned_words}
-use Rattle.space_plan.specs.cycle_turns.CycleLeft.{passes_left, scan_left, left_in_phase, cycle_left_at, cycle_left}
+use Rattle.space_plan.specs.cycle_turns.CycleLeft.{left_in_phase, cycle_left_at, cycle_left}
+use Rattle.space_plan.specs.cycle_turns.MarkingLeft.{passes_left, scan_left}
 use Rattle.space_plan.proofs.cycle_turns.Distinct.{scanned_words_fit}
 use Rattle.space_plan.proofs.cycle_turns.Lefts.{StageLeavesFewer, fewer_left_at_stage, fewer_left_in_words_after, turn_loses_nothing}
 use Rattle.space_plan.proofs.cycle_turns.LosesNothing.{LosesNothing, fewer_passes_left, scan_left_falls}

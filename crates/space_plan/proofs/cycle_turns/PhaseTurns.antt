@@ -13,8 +13,9 @@ use Rattle.core_machine.proofs.table_lemmas.Addresses.{put_of_read_changes_nothi
 use Rattle.core_rule.specs.turns.TurnsLeft.{scanned_count, sweep_most}
 use Rattle.core_rule.proofs.lists.SumLemmas.{sum-suc}
 use Rattle.space_plan.specs.cycle_turns.ToldWords.{scanned_words}
-use Rattle.space_plan.specs.cycle_turns.CycleLeft.{passes_left, phase_work, left_in_phase, phases_left, cycle_left_at, cycle_left}
-use Rattle.space_plan.specs.cycle_turns.CycleTurns.{most_turns}
+use Rattle.space_plan.specs.cycle_turns.CycleLeft.{phase_work, left_in_phase, phases_left, cycle_left_at, cycle_left}
+use Rattle.space_plan.specs.cycle_turns.MarkingLeft.{passes_left}
+use Rattle.space_plan.specs.cycle_turns.CycleTurns.{cycle_most}
 use Rattle.space_plan.proofs.cycle_turns.Lefts.{StageLeavesFewer, fewer_left_at_stage}
 use Rattle.space_plan.proofs.cycle_turns.LosesNothing.{fewer_passes_left}
 
@@ -97,7 +98,7 @@ unfolding sum_upto
 all_phases heap = omega arith
 
 -- where no cycle is under way, and no look was made, as many turns are left as a cycle has at most
-pub cycle_begins_with_most : (heap : Heap) (words : List ℕ) (p : ℕ) → p % cycle_phases ≡ 0 → cycle_left_at heap words p 0 stages.Looking ≡ most_turns heap
+pub cycle_begins_with_most : (heap : Heap) (words : List ℕ) (p : ℕ) → p % cycle_phases ≡ 0 → cycle_left_at heap words p 0 stages.Looking ≡ cycle_most heap
 cycle_begins_with_most heap words p rests =
     let work : phase_work heap.groups p ≡ 0 = work_by_rest heap.groups p 0 rests in
     let phases : phases_left heap p ≡ 6 * (heap.seats + 1) + (16 * heap.groups * (heap.groups + 12) + heap.groups + 1) + 81 * heap.groups + 19 * heap.groups + heap.groups
@@ -108,5 +109,5 @@ cycle_begins_with_most heap words p rests =
     times g = grind arith
 
     by : (work rest : ℕ) → work ≡ 0 → rest ≡ 6 * (heap.seats + 1) + (16 * heap.groups * (heap.groups + 12) + heap.groups + 1) + 81 * heap.groups + 19 * heap.groups + heap.groups
-        → 16 * heap.groups * (heap.groups + 12) ≡ 16 * heap.groups * heap.groups + 192 * heap.groups → heap.seats - 0 + work + 1 + rest ≡ most_turns heap
+        → 16 * heap.groups * (heap.groups + 12) ≡ 16 * heap.groups * heap.groups + 192 * heap.groups → heap.seats - 0 + work + 1 + rest ≡ cycle_most heap
     by work rest none is product = omega (arith, none, is, product)

@@ -9,21 +9,21 @@ use Rattle.core_rule.specs.Stands.{Stands}
 use Rattle.core_rule.proofs.runs.KeptRuns.{event_keeps, run_keeps}
 use Rattle.core_rule.proofs.runs.OpeningStands.{opening_stands}
 use Rattle.space_plan.specs.cycle_turns.CycleLeft.{cycle_left_at, cycle_left}
-use Rattle.space_plan.specs.cycle_turns.CycleTurns.{answer_now, counted, turns_of, turns_among, EndsCycle, ComesToEnd, StaysInCycle, most_turns, CycleTurns}
+use Rattle.space_plan.specs.cycle_turns.CountedTurns.{answer_now, counted, turns_of, turns_among, IsCycleEnd, LastEndsCycle, NoneEndsBeforeLast}
+use Rattle.space_plan.specs.cycle_turns.CycleTurns.{cycle_most, CycleTurns, EachEventLeavesFewer}
 use Rattle.space_plan.proofs.cycle_turns.PhaseTurns.{cycle_begins_with_most}
 use Rattle.space_plan.proofs.cycle_turns.SeatEvents.{seat_step_raises_nothing}
-use Rattle.space_plan.proofs.cycle_turns.Turns.{step_or_wait_pays, end_leaves_most}
+use Rattle.space_plan.proofs.cycle_turns.Turns.{step_or_wait_leaves_fewer, each_end_leaves_most}
 
 -- an event that ends no cycle leaves as many turns fewer as it counts
-event_pays : (heap : Heap) (state : State) (book : Book) (event : Event) → Rule heap state book → Can heap state event → ¬ EndsCycle heap state event
-    → turns_of heap state event + cycle_left heap (state_after heap state event) ≤ cycle_left heap state
-event_pays heap state book (Begins number command) rule can goes_on = omega arith
-event_pays heap state book (BeginsInner number inner) rule can goes_on = omega arith
-event_pays heap state book (Steps number) rule can goes_on = by _ _ (seat_step_raises_nothing heap state book rule number can)
+pub each_event_leaves_fewer : EachEventLeavesFewer
+each_event_leaves_fewer heap state book (Begins number command) rule can goes_on = omega arith
+each_event_leaves_fewer heap state book (BeginsInner number inner) rule can goes_on = omega arith
+each_event_leaves_fewer heap state book Turns rule can goes_on = step_or_wait_leaves_fewer heap state book rule goes_on
+each_event_leaves_fewer heap state book (Steps number) rule can goes_on = by _ _ (seat_step_raises_nothing heap state book rule number can)
   where
     by : (m n : ℕ) → m ≤ n → 0 + m ≤ n
     by m n less = omega (arith, less)
-event_pays heap state book Turns rule can goes_on = step_or_wait_pays heap state book rule goes_on
 
 -- each counts one turn at most, and one is always left
 counts_one : (heap : Heap) (state : State) (event : Event) → turns_of heap state event ≤ 1
@@ -44,7 +44,7 @@ one_is_left heap state = by _ _
     by m rest = omega arith
 
 -- so they are within what was left
-turns_within_left : (heap : Heap) (state : State) (book : Book) (events : List Event) → Stands heap state book → Run heap state events → StaysInCycle heap state events
+turns_within_left : (heap : Heap) (state : State) (book : Book) (events : List Event) → Stands heap state book → Run heap state events → NoneEndsBeforeLast heap state events
     → turns_among heap state events ≤ cycle_left heap state
 turns_within_left heap state book [] stands run stays = omega arith
 turns_within_left heap state book (event ∷ []) stands run stays = by _ _ (counts_one heap state event) (one_is_left heap state)
@@ -53,15 +53,15 @@ turns_within_left heap state book (event ∷ []) stands run stays = by _ _ (coun
     by m n few some = omega (arith, few, some)
 turns_within_left heap state book (event ∷ next ∷ events) stands run stays =
     let first = event_keeps heap state book event stands run.0 in
-    by _ _ _ _ (event_pays heap state book event stands.rule run.0 stays.0) (turns_within_left heap (state_after heap state event) first.book (next ∷ events) first.stands run.1 stays.1)
+    by _ _ _ _ (each_event_leaves_fewer heap state book event stands.rule run.0 stays.0) (turns_within_left heap (state_after heap state event) first.book (next ∷ events) first.stands run.1 stays.1)
   where
     by : (m rest left all : ℕ) → m + left ≤ all → rest ≤ left → m + rest ≤ all
-    by m rest left all pays within = omega (arith, pays, within)
+    by m rest left all fewer within = omega (arith, fewer, within)
 
 -- behind an end as many are left as a cycle has at most
-most_is_left : (heap : Heap) (state : State) (book : Book) (event : Event) (events : List Event) → Stands heap state book → Run heap state (event ∷ events) → ComesToEnd heap state (event ∷ events)
-    → cycle_left heap (state_after_all heap state (event ∷ events)) ≡ most_turns heap
-most_is_left heap state book Turns [] stands run ends = end_leaves_most heap state book stands.rule ends
+most_is_left : (heap : Heap) (state : State) (book : Book) (event : Event) (events : List Event) → Stands heap state book → Run heap state (event ∷ events) → LastEndsCycle heap state (event ∷ events)
+    → cycle_left heap (state_after_all heap state (event ∷ events)) ≡ cycle_most heap
+most_is_left heap state book Turns [] stands run ends = each_end_leaves_most heap state book stands.rule ends
 most_is_left heap state book (Begins number command) [] stands run ends = absurd ends
 most_is_left heap state book (BeginsInner number inner) [] stands run ends = absurd ends
 most_is_left heap state book (Steps number) [] stands run ends = absurd ends
@@ -70,10 +70,10 @@ most_is_left heap state book event (next ∷ events) stands run ends =
     most_is_left heap (state_after heap state event) first.book next events first.stands run.1 ends
 
 -- so many are left at the opening too
-most_is_left_by : (heap : Heap) (opening : State) (before : List Event) → IsHeap heap → IsOpening heap opening → Run heap opening before → ComesToEnd heap opening before
-    → cycle_left heap (state_after_all heap opening before) ≡ most_turns heap
+most_is_left_by : (heap : Heap) (opening : State) (before : List Event) → IsHeap heap → IsOpening heap opening → Run heap opening before → LastEndsCycle heap opening before
+    → cycle_left heap (state_after_all heap opening before) ≡ cycle_most heap
 most_is_left_by heap opening [] limits opens run ends =
-    subst (λ (c : Collector). cycle_left_at heap opening.words c.phase c.looked c.stage ≡ most_turns heap) (sym opens.nothing_done) (cycle_begins_with_most heap opening.words 0 refl)
+    subst (λ (c : Collector). cycle_left_at heap opening.words c.phase c.looked c.stage ≡ cycle_most heap) (sym opens.nothing_done) (cycle_begins_with_most heap opening.words 0 refl)
 most_is_left_by heap opening (event ∷ before) limits opens run ends =
     let first = opening_stands heap opening limits opens in
     most_is_left heap opening first.book event before first.stands run ends
@@ -89,5 +89,5 @@ cycle_turns heap opening before middle limits opens run ends stays =
     let stands = run_keeps heap opening before limits opens both.0 in
     by _ _ (turns_within_left heap (state_after_all heap opening before) stands.book middle stands.stands both.1 stays) (most_is_left_by heap opening before limits opens both.0 ends)
   where
-    by : (m left : ℕ) → m ≤ left → left ≡ most_turns heap → m ≤ most_turns heap
+    by : (m left : ℕ) → m ≤ left → left ≡ cycle_most heap → m ≤ cycle_most heap
     by m left within is = omega (arith, within, is)

@@ -9,7 +9,8 @@ use Rattle.core_machine.specs.declared.collector.stage.Stage.TheVariants as stag
 use Rattle.core_machine.specs.declared.table.address.Address.TheVariants.{Answer}
 use Rattle.core_machine.proofs.table_lemmas.Addresses.{put_of_read_changes_nothing}
 use Rattle.space_plan.specs.cycle_turns.CycleLeft.{cycle_left_at, cycle_left}
-use Rattle.space_plan.specs.cycle_turns.CycleTurns.{answer_now, counted, is_end, EndsCycle, turns_of, most_turns}
+use Rattle.space_plan.specs.cycle_turns.CountedTurns.{answer_now, counted, ends_cycle, IsCycleEnd, turns_of}
+use Rattle.space_plan.specs.cycle_turns.CycleTurns.{cycle_most, EachEndLeavesMost}
 use Rattle.space_plan.proofs.cycle_turns.CopyTurns.{copying_leaves_fewer}
 use Rattle.space_plan.proofs.cycle_turns.Lefts.{StageLeavesFewer}
 use Rattle.space_plan.proofs.cycle_turns.MarkingTurns.{passing_leaves_fewer, scanning_leaves_fewer, shading_leaves_fewer, addressing_leaves_fewer, indexing_leaves_fewer, spreading_leaves_fewer, blackening_leaves_fewer, flipping_leaves_fewer}
@@ -77,27 +78,27 @@ module _ (heap : Heap) (state : State) where
 
   module _ (book : Book) (rule : Rule heap state book) where
     -- so a turn that ends no cycle leaves as many fewer as it counts
-    turn_pays : (stage : Stage) → state.collector.stage ≡ stage → (answer : Turn) → answer_at stage ≡ answer → ¬ (is_end answer ≡ true) → counted answer + left_after stage ≤ cycle_left heap state
-    turn_pays stage here Stepped is goes_on = by _ _ (stage_leaves_fewer stage heap state book rule here is)
+    turn_leaves_fewer : (stage : Stage) → state.collector.stage ≡ stage → (answer : Turn) → answer_at stage ≡ answer → ¬ (ends_cycle answer ≡ true) → counted answer + left_after stage ≤ cycle_left heap state
+    turn_leaves_fewer stage here Stepped is goes_on = by _ _ (stage_leaves_fewer stage heap state book rule here is)
       where
         by : (m n : ℕ) → m < n → 1 + m ≤ n
         by m n less = omega (arith, less)
-    turn_pays stage here (Waits seat answered phase) is goes_on = by _ _ (wait_leaves_same stage seat answered phase here is)
+    turn_leaves_fewer stage here (Waits seat answered phase) is goes_on = by _ _ (wait_leaves_same stage seat answered phase here is)
       where
         by : (m n : ℕ) → m ≡ n → 0 + m ≤ n
         by m n same = omega (arith, same)
-    turn_pays stage here (Ended cycle kept) is goes_on = absurd (goes_on refl)
+    turn_leaves_fewer stage here (Ended cycle kept) is goes_on = absurd (goes_on refl)
 
-    pub step_or_wait_pays : ¬ EndsCycle heap state Turns → turns_of heap state Turns + cycle_left heap (state_after heap state Turns) ≤ cycle_left heap state
-    step_or_wait_pays goes_on = turn_pays state.collector.stage refl (answer_now heap state) refl goes_on
+    pub step_or_wait_leaves_fewer : ¬ IsCycleEnd heap state Turns → turns_of heap state Turns + cycle_left heap (state_after heap state Turns) ≤ cycle_left heap state
+    step_or_wait_leaves_fewer goes_on = turn_leaves_fewer state.collector.stage refl (answer_now heap state) refl goes_on
 
-    ended_cycle_has_most : (stage : Stage) → state.collector.stage ≡ stage → is_end (answer_at stage) ≡ true → left_after stage ≡ most_turns heap
+    ended_cycle_has_most : (stage : Stage) → state.collector.stage ≡ stage → ends_cycle (answer_at stage) ≡ true → left_after stage ≡ cycle_most heap
     ended_cycle_has_most (stages.Ending kept) here ends =
         let fits : HasCleared heap state.collector.phase state.collector.looked kept = rw here at rule.machine.collector_fit.at_stage in
         cycle_begins_with_most heap (state_after_turn heap state (turn_at heap state.collector (stages.Ending kept))).words (state.collector.phase + 1) (omega (arith, fits.for_clearing))
     ended_cycle_has_most stages.Looking here ends = by (has_answered_of state.collector.phase (at heap state.words (Answer state.collector.looked))) ends
       where
-        by : (b : Bool) → is_end (if b then Stepped else Waits state.collector.looked (at heap state.words (Answer state.collector.looked)) state.collector.phase) ≡ true → left_after stages.Looking ≡ most_turns heap
+        by : (b : Bool) → ends_cycle (if b then Stepped else Waits state.collector.looked (at heap state.words (Answer state.collector.looked)) state.collector.phase) ≡ true → left_after stages.Looking ≡ cycle_most heap
         by true is = absurd (false≢true is)
         by false is = absurd (false≢true is)
     ended_cycle_has_most (stages.Passing group found) here ends = absurd (false≢true ends)
@@ -116,6 +117,6 @@ module _ (heap : Heap) (state : State) where
     ended_cycle_has_most (stages.Clearing group kept) here ends = absurd (false≢true ends)
     ended_cycle_has_most stages.Advancing here ends = absurd (false≢true ends)
 
-    -- and behind an end as many are left as a cycle has at most
-    pub end_leaves_most : EndsCycle heap state Turns → cycle_left heap (state_after heap state Turns) ≡ most_turns heap
-    end_leaves_most ends = ended_cycle_has_most state.collector.stage refl ends
+-- so behind an end as many are left as a cycle has at most
+pub each_end_leaves_most : EachEndLeavesMost
+each_end_leaves_most heap state book rule ends = ended_cycle_has_most heap state book rule state.collector.stage refl ends
