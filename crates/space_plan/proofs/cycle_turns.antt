@@ -6,6 +6,7 @@ pub mod SeatEvents
 pub mod Distinct
 pub mod Lefts
 pub mod CopyTurns
+pub mod ScansLeft
 pub mod MarkingTurns
 pub mod PhaseTurns
 pub mod SweepTurns

@@ -5,7 +5,7 @@ use Rattle.std.specs.Prelude.{IfSome}
 use Rattle.std.proofs.Common.{◌≡◌, ℕ, suc, ◌+◌, ◌-◌, ◌*◌, ◌<◌, ◌≤◌, true, List, length, Option, Some, None, inl, inr, refl, ap, ◌∙◌, subst, arith}
 use Rattle.std.proofs.lemmas.Bool.Decides.{eqb_tells, leb_tells}
 use Rattle.heap_words.specs.declared.spot.Spot.{Spot}
-use Rattle.core_rule.proofs.Terms.{control_of, marked_at, marked_bit, spot_in, array_words, graph_of, Heap, IsCopying, FitsCopying, Stage, State, array_length_of, spine_words_in, Word, at, put, address_of, IsMarked, IsSized, node_at, Book, Rule, Colour, White, Grey, Black}
+use Rattle.core_rule.proofs.Terms.{control_of, marked_at, marked_bit, spot_in, array_words, graph_of, Heap, FitsCopying, Stage, State, array_length_of, spine_words_in, Word, at, put, IsMarked, IsSized, node_at, Book, Rule, Colour, White, Grey, Black}
 use Rattle.core_machine.specs.collector.Copying.{marked_bits_of, next_position_of, left_half, after_visited, after_seen, visit_on, after_inspected, after_located, copy_at}
 use Rattle.core_machine.specs.collector.CopyingTurns.{visited, after_copying, copying_step}
 use Rattle.core_machine.specs.collector.FitsTurns.{FitsVisit}
@@ -20,7 +20,7 @@ use Rattle.core_rule.proofs.copies.CopyingStages.{copying_is_after_marking, fits
 use Rattle.core_rule.proofs.copies.InspectedWords.{marked_meta_begins_array}
 use Rattle.core_rule.proofs.copies.VisitsOn.{copying_stands_from_stage}
 use Rattle.core_rule.proofs.lists.SumLemmas.{sum-suc}
-use Rattle.core_rule.proofs.turns.NextPositions.{next_position_is_not_before, next_position_within_group}
+use Rattle.core_rule.proofs.turns.NextPositions.{next_position_is_not_before}
 use Rattle.space_plan.specs.cycle_turns.ToldWords.{told_words, fragments_told, fragments_before}
 use Rattle.space_plan.specs.cycle_turns.CopyingLeft.{visits_left, behind_visit, copying_left}
 use Rattle.space_plan.specs.cycle_turns.CycleLeft.{left_in_phase, cycle_left_at, cycle_left}

@@ -1,11 +1,11 @@
 -- The arrays of which marked fragments tell have their fragments for themselves, so together no more than the heap has.
 use Rattle.std.specs.Int.{bit_at}
 use Rattle.std.specs.Prelude.{if◌then◌else◌}
-use Rattle.std.proofs.Common.{◌≡◌, ◌≢◌, ℕ, zero, suc, ◌+◌, ◌*◌, ◌^◌, ◌<◌, ◌≤◌, ◌==◌, Bool, true, false, List, length, get_or, inl, inr, refl, sym, ap, ◌∙◌, subst, arith}
+use Rattle.std.proofs.Common.{◌≡◌, ℕ, zero, suc, ◌+◌, ◌*◌, ◌^◌, ◌<◌, ◌≤◌, ◌==◌, Bool, true, false, length, get_or, inl, inr, refl, sym, ap, ◌∙◌, subst, arith}
 use Rattle.std.proofs.lemmas.Bool.{cases_lt}
 use Rattle.std.proofs.lemmas.Bool.Decides.{eqb_tells}
-use Rattle.core_rule.proofs.Terms.{control_of, scanned_at, array_word_of, array_fragments, array_words, record_fragments, Command, Heap, Id, Made, graph_of, fragments_of, spine_words_of, Node, Word, spine_words_in, newborn_word, newborn_word_of, next_name, need_of, MakesObject}
-use Rattle.core_rule.proofs.Terms.{Seat, tally, sum_upto, at, State, seat_at, Book, fragment_at, id_at, IsMarked, node_at, Owner, Free, Taken, Borne, Kept, Dead, born_bit, one_at, Rule, IsKept, array_meta}
+use Rattle.core_rule.proofs.Terms.{control_of, scanned_at, array_word_of, array_fragments, array_words, record_fragments, Command, Heap, graph_of, fragments_of, spine_words_of, Node, Word, spine_words_in, newborn_word, newborn_word_of, next_name, need_of, MakesObject}
+use Rattle.core_rule.proofs.Terms.{Seat, tally, sum_upto, at, State, seat_at, Book, fragment_at, node_at, Owner, Free, Taken, Borne, Kept, Dead, born_bit, one_at, Rule, array_meta}
 use Rattle.heap_words.specs.declared.name.Name.{Name}
 use Rattle.heap_words.specs.declared.spot.Spot.{Spot}
 use Rattle.heap_model.specs.Command.{IsCommand}
@@ -98,8 +98,11 @@ module _ (heap : Heap) (state : State) (book : Book) (rule : Rule heap state boo
       let each : sum_upto (16 * heap.groups) (λ g. tally g seat.body) ≤ followers f = sum_le (16 * heap.groups) (λ g. tally g seat.body) (λ g. one_at (first_of (book.owner g)) f) (λ g below.
       elim (none_or_some (tally g seat.body)) as (λ _. tally g seat.body ≤ one_at (first_of (book.owner g)) f) [
         | inl none ↦ omega (arith, none)
-        | inr there ↦ omega (arith, body_has_each_once book.owner number seat.reserve seat.hand seat.body holding some g,
-            one_at_same_is_one (first_of (book.owner g)) f (own_first number (book.owner g) (body_is_own book.owner number seat.reserve seat.hand seat.body holding g there) ∙ sym first))
+        | inr there ↦ omega (
+          arith,
+          body_has_each_once book.owner number seat.reserve seat.hand seat.body holding some g,
+          one_at_same_is_one (first_of (book.owner g)) f (own_first number (book.owner g) (body_is_own book.owner number seat.reserve seat.hand seat.body holding g there) ∙ sym first),
+        )
       ]) in
       omega (arith, all, each)
 

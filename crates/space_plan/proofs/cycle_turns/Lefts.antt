@@ -1,6 +1,6 @@
 -- How the number of turns left of a cycle goes on within a phase.
-use Rattle.std.proofs.Common.{◌≡◌, ℕ, ◌+◌, ◌-◌, ◌*◌, ◌%◌, ◌<◌, ◌≤◌, List, subst, arith}
-use Rattle.core_rule.proofs.Terms.{Heap, turn_at, Stage, State, found_by, state_after_turn, address_of, word_after, put, HasWord, Book, Rule}
+use Rattle.std.proofs.Common.{◌≡◌, ℕ, ◌+◌, ◌<◌, ◌≤◌, List, subst, arith}
+use Rattle.core_rule.proofs.Terms.{Heap, turn_at, Stage, State, found_by, state_after_turn, address_of, HasWord, Book, Rule}
 use Rattle.heap_model.specs.declared.calls.collector_calls.Turn.TheVariants.{Stepped}
 use Rattle.core_machine.specs.collector.FitsTurns.{FitsStage}
 use Rattle.core_rule.specs.runs.TableLaws.{EachTurnHasItsWord}

@@ -1,6 +1,6 @@
 -- Where no fragment loses its scanned bit, and none tells fewer words than before, no more turns are left.
 use Rattle.std.specs.Int.{bit_at}
-use Rattle.std.proofs.Common.{◌≡◌, ℕ, ◌+◌, ◌-◌, ◌*◌, ◌/◌, ◌<◌, ◌≤◌, List, arith}
+use Rattle.std.proofs.Common.{ℕ, ◌+◌, ◌-◌, ◌*◌, ◌/◌, ◌<◌, ◌≤◌, List, arith}
 use Rattle.std.proofs.Math.Nat.{mul-le-mul_right}
 use Rattle.core_rule.proofs.Terms.{control_of, scanned_at, Heap, FitsCopying, Stage}
 use Rattle.core_machine.specs.collector.CopyingTurns.{visited}

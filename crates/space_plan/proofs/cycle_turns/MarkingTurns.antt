@@ -1,12 +1,10 @@
 -- Each turn of marking leaves fewer turns of the cycle.
 use Rattle.std.specs.Int.{bit_at}
-use Rattle.std.specs.Prelude.{if◌then◌else◌}
-use Rattle.std.proofs.Common.{◌≡◌, ℕ, suc, ◌+◌, ◌-◌, ◌*◌, ◌/◌, ◌<◌, ◌≤◌, Bool, true, false, List, Option, Some, None, inl, inr, refl, ap, ◌∙◌, subst, bit_or, arith}
-use Rattle.std.proofs.lemmas.Bool.Decides.{eqb_tells, leb_tells}
+use Rattle.std.proofs.Common.{◌≡◌, ℕ, ◌+◌, ◌-◌, ◌*◌, ◌/◌, ◌<◌, ◌≤◌, Bool, true, List, Option, Some, None, refl, ap, ◌∙◌, bit_or, arith}
 use Rattle.std.proofs.lemmas.Nat.Bits.{bit_at-lt}
-use Rattle.core_rule.proofs.Terms.{blacken_bit_of, control_of, marked_at, scanned_at, Heap, IsBlackening, IsPassing, IsScanning, IsShading, IsAddressing, IsIndexing, IsSpreading, Stage, State, Control, Word, Spine, is_meta, pointer_in, payload_in, spine_words_in, at, put}
-use Rattle.core_rule.proofs.Terms.{Book, Colour, Grey, IsSeen, IsSeenWhole, IsSpineOf, WordPointsTo, MayMark, Marks, marked_bit, scanned_bit, Rule, found_by, turn_at, state_after_turn}
-use Rattle.core_machine.specs.collector.Marking.{lowest_grey_of, after_last_group, after_group, after_pass, part_after, scan_step, scan_at, after_scan_load, array_at, after_first_load, spine_step, spine_scan_at, after_address, after_spread}
+use Rattle.core_rule.proofs.Terms.{blacken_bit_of, control_of, marked_at, scanned_at, Heap, IsBlackening, IsPassing, IsScanning, IsShading, IsSpreading, State, Control, Word, Spine, pointer_in, payload_in, spine_words_in, at, put}
+use Rattle.core_rule.proofs.Terms.{Book, Grey, IsSeen, IsSeenWhole, IsSpineOf, WordPointsTo, MayMark, Marks, marked_bit, scanned_bit, Rule, turn_at, state_after_turn}
+use Rattle.core_machine.specs.collector.Marking.{lowest_grey_of, after_pass, part_after, scan_step, scan_at, array_at, after_first_load, spine_step, after_address, after_spread}
 use Rattle.core_machine.specs.declared.collector.stage.Scan.{Scan}
 use Rattle.core_machine.specs.declared.collector.stage.SpineScan.{SpineScan}
 use Rattle.core_machine.specs.declared.collector.stage.Stage.TheVariants as stages
@@ -14,121 +12,17 @@ use Rattle.core_machine.proofs.collector_lemmas.SpineTurns.{spine_scan_cases}
 use Rattle.core_machine.proofs.table_lemmas.Addresses.{put_of_read_changes_nothing}
 use Rattle.core_machine.proofs.table_lemmas.Grey.{grey_position_within_group}
 use Rattle.core_rule.specs.turns.TurnsLeft.{scanned_count}
-use Rattle.core_rule.proofs.colours.BlackenColours.{with_scan, scanned_is_black, marks_after_blackening}
+use Rattle.core_rule.proofs.colours.BlackenColours.{scanned_is_black, marks_after_blackening}
 use Rattle.core_rule.proofs.lists.SumLemmas.{sum_ones}
 use Rattle.core_rule.proofs.marking.GreyPositions.{lowest_is_grey}
-use Rattle.core_rule.proofs.marking.Scans.{scan_cases}
 use Rattle.space_plan.specs.cycle_turns.ToldWords.{where_set, told_words, scanned_words}
-use Rattle.space_plan.specs.cycle_turns.CycleLeft.{left_in_phase, cycle_left_at, cycle_left}
-use Rattle.space_plan.specs.cycle_turns.MarkingLeft.{passes_left, scan_left}
+use Rattle.space_plan.specs.cycle_turns.CycleLeft.{left_in_phase}
+use Rattle.space_plan.specs.cycle_turns.MarkingLeft.{scan_left}
 use Rattle.space_plan.proofs.cycle_turns.Distinct.{scanned_words_fit}
 use Rattle.space_plan.proofs.cycle_turns.Lefts.{StageLeavesFewer, fewer_left_at_stage, fewer_left_in_words_after, turn_loses_nothing}
 use Rattle.space_plan.proofs.cycle_turns.LosesNothing.{LosesNothing, fewer_passes_left, scan_left_falls}
 use Rattle.space_plan.proofs.cycle_turns.Sums.{where_set_is_number, where_set_grows, where_unset_is_none, sum_grows_at}
-
--- a scan begins: a fragment that isn't scanned pays for it, and for the next pass
-scan_begins : (groups all seen spine_words group again : ℕ) → seen < all → passes_left groups (all - (seen + 1)) spine_words group groups + 9 < passes_left groups (all - seen) spine_words group again
-scan_begins groups all seen spine_words group again fewer =
-    let one : all - seen ≡ suc (all - (seen + 1)) = omega (arith, fewer) in
-    rw one (grown (all - (seen + 1)) (groups - group))
-  where
-    grown : (m g : ℕ) → m * (groups + 10) + 2 * spine_words + g + groups + 1 + 9 < suc m * (groups + 10) + 2 * spine_words + g + again + 1
-    grown m g = let more : suc m * (groups + 10) ≡ m * (groups + 10) + (groups + 10) = grind arith in omega (arith, more)
-
--- the next group's turn comes, or another pass begins, or marking has ended
-next_group_less : (groups fragments spine_words group again : ℕ) → group < groups → passes_left groups fragments spine_words (group + 1) again < passes_left groups fragments spine_words group again
-next_group_less groups fragments spine_words group again below = by (fragments * (groups + 10))
-  where
-    by : (m : ℕ) → m + 2 * spine_words + (groups - (group + 1)) + again + 1 < m + 2 * spine_words + (groups - group) + again + 1
-    by m = omega (arith, below)
-
-next_pass_less : (groups fragments spine_words group : ℕ) → group < groups → passes_left groups fragments spine_words 0 0 < passes_left groups fragments spine_words group groups
-next_pass_less groups fragments spine_words group below = by (fragments * (groups + 10))
-  where
-    by : (m : ℕ) → m + 2 * spine_words + (groups - 0) + 0 + 1 < m + 2 * spine_words + (groups - group) + groups + 1
-    by m = omega (arith, below)
-
-flip_is_left : (groups fragments spine_words group again : ℕ) → group < groups → 1 < passes_left groups fragments spine_words group again
-flip_is_left groups fragments spine_words group again below = by (fragments * (groups + 10))
-  where
-    by : (m : ℕ) → 1 < m + 2 * spine_words + (groups - group) + again + 1
-    by m = omega (arith, below)
-
--- a later word comes after this one
-later_part : (part word : ℕ) → part < part_after part word
-later_part part word = elim (eqb_tells part 0) as (λ _. part < part_after part word) [
-  | inl first ↦ rw first.0 (by (is_meta word) first.1)
-  | inr behind ↦ rw behind.0 (omega arith)
-]
-  where
-    by : (b : Bool) → part ≡ 0 → part < (if b then 2 else 1)
-    by true first = omega (arith, first)
-    by false first = omega (arith, first)
-
-module _ (heap : Heap) (phase looked : ℕ) (words : List ℕ) where
-  -- so many turns are left at a stage
-  abbrev left_at : Stage → ℕ
-  left_at stage = left_in_phase heap words phase looked stage
-
-  last_group_leaves : (group : ℕ) (found : Bool) → group < heap.groups → left_at (after_last_group found) < left_at (stages.Passing group found)
-  last_group_leaves group true below = next_pass_less heap.groups (16 * heap.groups - scanned_count heap words) (16 * heap.groups - scanned_words heap words) group below
-  last_group_leaves group false below = flip_is_left heap.groups (16 * heap.groups - scanned_count heap words) (16 * heap.groups - scanned_words heap words) group 0 below
-
-  group_leaves : (group : ℕ) (found : Bool) → group < heap.groups → left_at (after_group heap group found) < left_at (stages.Passing group found)
-  group_leaves group found below = elim (leb_tells (suc (group + 1)) heap.groups) as (λ _. left_at (after_group heap group found) < left_at (stages.Passing group found)) [
-    | inl more ↦ rw more.0 (next_group_less heap.groups (16 * heap.groups - scanned_count heap words) (16 * heap.groups - scanned_words heap words) group _ below)
-    | inr last ↦ rw last.0 (last_group_leaves group found below)
-  ]
-
-  -- fewer steps are left of a scan that goes on, and of one with more spine words behind it
-  fewer_steps : (scan : Scan) (behind m n : ℕ) → m < n → scan_left heap words scan behind m < scan_left heap words scan behind n
-  fewer_steps scan behind m n less = by _
-    where
-      by : (b : ℕ) → b + m < b + n
-      by b = omega (arith, less)
-
-  -- a scan that is through has no more left than its last step, whatever spine words are behind it
-  through_leaves : (scan : Scan) (behind steps : ℕ) → 1 ≤ steps → scan_left heap words scan behind 1 ≤ scan_left heap words scan 0 steps
-  through_leaves scan behind steps some =
-      let less = fewer_passes_left heap.groups (16 * heap.groups - (scanned_count heap words + 1)) (16 * heap.groups - (scanned_count heap words + 1)) (16 * heap.groups - scanned_words heap words - behind)
-      (16 * heap.groups - scanned_words heap words - 0) (scan.fragment / 16) heap.groups (omega arith) (omega arith) in
-      by _ _ less
-    where
-      by : (m n : ℕ) → m ≤ n → m + 1 ≤ n + steps
-      by m n fewer = omega (arith, fewer, some)
-
-  scan_at_leaves : (scan : Scan) (part : ℕ) → left_at (scan_at (scan_step scan) part) ≤ scan_left heap words scan 0 (2 * (4 - part) + 1)
-  scan_at_leaves scan part = scan_cases (λ stage. left_at stage ≤ scan_left heap words scan 0 (2 * (4 - part) + 1)) (scan_step scan) part (same _)
-      (λ behind. through_leaves scan (told_words heap words scan.fragment) (2 * (4 - part) + 1) (omega arith))
-    where
-      same : (m : ℕ) → m ≤ m
-      same m = omega arith
-
-  below_then : (l m n : ℕ) → l ≤ m → m < n → l < n
-  below_then l m n less more = omega (arith, less, more)
-
-  scan_load_leaves : (scan : Scan) (next : ℕ) (found : Option ℕ) → scan.part < next → scan.part < 4 → left_at (after_scan_load scan next found) < scan_left heap words scan 0 (2 * (4 - scan.part) + 1)
-  scan_load_leaves scan next None later within = below_then _ _ _ (scan_at_leaves scan next) (fewer_steps scan 0 (2 * (4 - next) + 1) (2 * (4 - scan.part) + 1) (omega (arith, later, within)))
-  scan_load_leaves scan next (Some target) later within = fewer_steps scan 0 (2 * (4 - scan.part)) (2 * (4 - scan.part) + 1) (omega arith)
-
-  first_load_leaves : (scan : Scan) (length : Option ℕ) (next : ℕ) (found : Option ℕ) → scan.part < next → scan.part < 4
-      → left_at (after_first_load scan length next found) < scan_left heap words scan 0 (2 * (4 - scan.part) + 1)
-  first_load_leaves scan None next found later within = scan_load_leaves scan next found later within
-  first_load_leaves scan (Some cells) next found later within = fewer_steps scan 0 2 (2 * (4 - scan.part) + 1) (omega (arith, within))
-
-  shaded_leaves : (scan : Scan) (next : ℕ) → scan.part < next → next ≤ 4 → left_at (scan_at (scan_step scan) next) < scan_left heap words scan 0 (2 * (4 - scan.part))
-  shaded_leaves scan next later within = below_then _ _ _ (scan_at_leaves scan next) (fewer_steps scan 0 (2 * (4 - next) + 1) (2 * (4 - scan.part)) (omega (arith, later, within)))
-
-  addressed_leaves : (scan : Scan) (n found : ℕ) → left_at (after_address scan n found) < scan_left heap words scan 0 2
-  addressed_leaves scan n found = spine_scan_cases (λ stage. left_at stage < scan_left heap words scan 0 2) _ (λ more. fewer_steps scan 0 1 2 (omega arith))
-      (λ done. below_then _ _ _ (through_leaves scan (told_words heap words scan.fragment) 1 (omega arith)) (fewer_steps scan 0 1 2 (omega arith)))
-
-  -- with one spine word more behind it, and with all, less is left of a scan, where that many are left
-  word_behind_leaves : (scan : Scan) (i behind : ℕ) → i < behind → behind ≤ 16 * heap.groups - scanned_words heap words → scan_left heap words scan behind 1 < scan_left heap words scan i 0
-  word_behind_leaves scan i behind less few = by ((16 * heap.groups - (scanned_count heap words + 1)) * (heap.groups + 10)) (16 * heap.groups - scanned_words heap words) (heap.groups - scan.fragment / 16) few
-    where
-      by : (m w g : ℕ) → behind ≤ w → m + 2 * (w - behind) + g + heap.groups + 1 + 1 < m + 2 * (w - i) + g + heap.groups + 1 + 0
-      by m w g enough = omega (arith, less, enough)
+use Rattle.space_plan.proofs.cycle_turns.ScansLeft.{scan_begins, group_leaves, fewer_steps, first_load_leaves, shaded_leaves, addressed_leaves, word_behind_leaves, below_then, later_part}
 
 module _ (heap : Heap) (state : State) (book : Book) (rule : Rule heap state book) where
   abbrev phase_now : ℕ
@@ -235,8 +129,12 @@ blackening_leaves_fewer scan heap state book rule blackening stepped =
     let spine_words : scanned_words heap state.words + told_words heap state.words f ≤ scanned_words heap now = sum_grows_at (16 * heap.groups) (told_words heap state.words f) f
     (λ g. where_set (bit_at (control_of heap state.words g) (scanned_at g)) (told_words heap state.words g)) (λ g. where_set (bit_at (control_of heap now g) (scanned_at g)) (told_words heap now g)) fits.fragment_within
     (λ g below. where_set_grows (bit_at (control_of heap state.words g) (scanned_at g)) (bit_at (control_of heap now g) (scanned_at g)) (told_words heap state.words g) (told_words heap now g) (keeps.scanned g below) (keeps.told g below))
-    (omega (arith, where_unset_is_none (bit_at (control_of heap state.words f) (scanned_at f)) (told_words heap state.words f) was,
-    where_set_is_number (bit_at (control_of heap now f) (scanned_at f)) (told_words heap now f) (omega (arith, is)), keeps.told f fits.fragment_within)) in
+    (omega (
+      arith,
+      where_unset_is_none (bit_at (control_of heap state.words f) (scanned_at f)) (told_words heap state.words f) was,
+      where_set_is_number (bit_at (control_of heap now f) (scanned_at f)) (told_words heap now f) (omega (arith, is)),
+      keeps.told f fits.fragment_within,
+    )) in
     fewer_left_at_stage heap state (stages.Blackening scan) blackening now state.collector.looked (stages.Passing (f / 16) true)
     (by _ _ (fewer_passes_left heap.groups (16 * heap.groups - scanned_count heap now) (16 * heap.groups - (scanned_count heap state.words + 1)) (16 * heap.groups - scanned_words heap now)
     (16 * heap.groups - scanned_words heap state.words - told_words heap state.words f) (f / 16) heap.groups (omega (arith, count)) (omega (arith, spine_words))))

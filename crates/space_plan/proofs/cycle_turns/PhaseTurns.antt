@@ -2,7 +2,7 @@
 use Rattle.std.specs.Prelude.{if◌then◌else◌}
 use Rattle.std.proofs.Common.{suc, ◌≡◌, ◌≢◌, ℕ, ◌+◌, ◌-◌, ◌*◌, ◌%◌, ◌<◌, ◌≤◌, Bool, true, false, List, inl, inr, refl, sym, ap, ◌∙◌, subst, arith}
 use Rattle.std.proofs.lemmas.Bool.Decides.{leb_tells}
-use Rattle.core_rule.proofs.Terms.{cycle_phases, Heap, Collector, has_answered_of, first_work, after_counted_look, HasLooked, HasCleared, Stage, State, at, sum_upto, turn_at, state_after_turn, found_by}
+use Rattle.core_rule.proofs.Terms.{cycle_phases, Heap, Collector, has_answered_of, first_work, after_counted_look, HasLooked, State, at, sum_upto}
 use Rattle.heap_model.specs.PhasePlan.{clearing}
 use Rattle.heap_model.specs.declared.calls.collector_calls.Turn.TheVariants.{Stepped, Waits}
 use Rattle.core_machine.specs.declared.collector.stage.Copying.TheVariants.{Visiting}

@@ -1,15 +1,15 @@
 -- A run's turns, up to the end of a cycle, are no more than were left where it began.
-use Rattle.std.proofs.Common.{◌≡◌, ℕ, ◌+◌, ◌<◌, ◌≤◌, List, [], ◌∷◌, ◌++◌, refl, sym, subst, arith}
+use Rattle.std.proofs.Common.{◌≡◌, ℕ, ◌+◌, ◌≤◌, List, [], ◌∷◌, ◌++◌, refl, sym, subst, arith}
 use Rattle.heap_model.specs.Heap.{IsHeap}
 use Rattle.heap_model.specs.declared.calls.collector_calls.Turn.{Turn}
 use Rattle.heap_model.specs.declared.calls.collector_calls.Turn.TheVariants.{Stepped, Waits, Ended}
 use Rattle.core_machine.specs.machine.Opening.{IsOpening}
-use Rattle.core_rule.proofs.Terms.{Collector, opening_collector, Heap, State, Event, Begins, BeginsInner, Steps, Turns, Can, state_after, Run, state_after_all, Book, Rule}
+use Rattle.core_rule.proofs.Terms.{Collector, Heap, State, Event, Begins, BeginsInner, Steps, Turns, state_after, Run, state_after_all, Book}
 use Rattle.core_rule.specs.Stands.{Stands}
 use Rattle.core_rule.proofs.runs.KeptRuns.{event_keeps, run_keeps}
 use Rattle.core_rule.proofs.runs.OpeningStands.{opening_stands}
 use Rattle.space_plan.specs.cycle_turns.CycleLeft.{cycle_left_at, cycle_left}
-use Rattle.space_plan.specs.cycle_turns.CountedTurns.{answer_now, counted, turns_of, turns_among, IsCycleEnd, LastEndsCycle, NoneEndsBeforeLast}
+use Rattle.space_plan.specs.cycle_turns.CountedTurns.{answer_now, counted, turns_of, turns_among, LastEndsCycle, NoneEndsBeforeLast}
 use Rattle.space_plan.specs.cycle_turns.CycleTurns.{cycle_most, CycleTurns, EachEventLeavesFewer}
 use Rattle.space_plan.proofs.cycle_turns.PhaseTurns.{cycle_begins_with_most}
 use Rattle.space_plan.proofs.cycle_turns.SeatEvents.{seat_step_raises_nothing}

@@ -3,17 +3,15 @@ use Rattle.std.specs.Int.{bit_at}
 use Rattle.std.specs.Prelude.{IfSome, if◌then◌else◌, option_map}
 use Rattle.std.proofs.Common.{◌≡◌, ℕ, ◌+◌, ◌*◌, ◌/◌, ◌<◌, ◌≤◌, Bool, true, false, Option, Some, None, refl, ap, ◌∙◌, subst, arith}
 use Rattle.core_rule.proofs.Terms.{control_of, marked_at, Command, Heap, Point, Swapping, move_at, due_step, refusal_step, is_last_birth, last_birth_move, birth_move, Move, Seat, State, seat_at}
-use Rattle.core_rule.proofs.Terms.{state_after, state_after_due, Begins, BeginsInner, Steps, Can, HasWord, address_of, Book, IsMarked, marked_bit, IsBorn, WhileAccess, spine_words_in, at, Word, row_of, field_of, Rule}
+use Rattle.core_rule.proofs.Terms.{state_after, state_after_due, Steps, Can, HasWord, address_of, Book, IsMarked, marked_bit, IsBorn, WhileAccess, spine_words_in, at, Word, row_of, field_of, Rule}
 use Rattle.heap_model.specs.declared.command.Command.TheVariants as commands
 use Rattle.core_machine.specs.declared.point.Access.{Access}
 use Rattle.core_machine.specs.declared.point.Access.TheVariants as accesses
-use Rattle.core_machine.specs.declared.point.Collecting.{Collecting}
 use Rattle.core_machine.specs.declared.point.Collecting.TheVariants as collectings
 use Rattle.core_machine.specs.declared.point.Leaving.TheVariants as leavings
 use Rattle.core_machine.specs.declared.point.Making.{Making}
 use Rattle.core_machine.specs.declared.point.Making.TheVariants as makings
 use Rattle.core_machine.specs.declared.point.Point.TheVariants as points
-use Rattle.core_machine.specs.declared.point.Polling.{Polling}
 use Rattle.core_machine.specs.declared.point.Polling.TheVariants as pollings
 use Rattle.core_machine.specs.declared.step.Step.{Step}
 use Rattle.core_machine.specs.declared.step.Step.TheVariants as steps
@@ -28,9 +26,9 @@ use Rattle.core_rule.proofs.runs.Runs.{stepping_seat_is_there}
 use Rattle.core_rule.proofs.told.ReachedFields.{reaches_own}
 use Rattle.space_plan.specs.cycle_turns.ToldWords.{told_words}
 use Rattle.space_plan.specs.cycle_turns.CycleLeft.{cycle_left}
-use Rattle.space_plan.proofs.cycle_turns.LosesNothing.{LosesNothing, cycle_left_falls}
+use Rattle.space_plan.proofs.cycle_turns.LosesNothing.{cycle_left_falls}
 use Rattle.space_plan.proofs.cycle_turns.Sums.{set_where_some, where_set_of_none}
-use Rattle.space_plan.proofs.cycle_turns.Writes.{Spares, loses_nothing_of_itself, step_loses_nothing}
+use Rattle.space_plan.proofs.cycle_turns.Writes.{Spares, step_loses_nothing}
 
 module _ (heap : Heap) (state : State) (book : Book) (rule : Rule heap state book) where
   -- a fragment that tells spine words is marked by the book, and so born

@@ -1,10 +1,10 @@
 -- Each turn of the collector, by its stage: a step leaves fewer turns of the cycle, a wait no more, and an end as many as a cycle has at most.
 use Rattle.std.specs.Prelude.{if◌then◌else◌}
-use Rattle.std.proofs.Common.{◌≡◌, ℕ, ◌+◌, ◌*◌, ◌%◌, ◌<◌, ◌≤◌, Bool, true, false, refl, sym, subst, arith}
+use Rattle.std.proofs.Common.{◌≡◌, ℕ, ◌+◌, ◌<◌, ◌≤◌, Bool, true, false, refl, sym, subst, arith}
 use Rattle.std.proofs.lemmas.Bool.{false≢true}
 use Rattle.heap_model.specs.declared.calls.collector_calls.Turn.{Turn}
 use Rattle.heap_model.specs.declared.calls.collector_calls.Turn.TheVariants.{Stepped, Waits, Ended}
-use Rattle.core_rule.proofs.Terms.{cycle_phases, Collector, Heap, HasCleared, has_answered_of, after_counted_look, Stage, State, Turns, state_after, turn_at, found_by, state_after_turn, at, put, Book, Rule}
+use Rattle.core_rule.proofs.Terms.{Collector, Heap, HasCleared, has_answered_of, after_counted_look, Stage, State, Turns, state_after, turn_at, found_by, state_after_turn, at, Book, Rule}
 use Rattle.core_machine.specs.declared.collector.stage.Stage.TheVariants as stages
 use Rattle.core_machine.specs.declared.table.address.Address.TheVariants.{Answer}
 use Rattle.core_machine.proofs.table_lemmas.Addresses.{put_of_read_changes_nothing}

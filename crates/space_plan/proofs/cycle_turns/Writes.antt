@@ -1,6 +1,6 @@
 -- Which steps lose nothing: all but those that free and clear, if a give back clears taken bits alone and a store meets no array's first word.
 use Rattle.std.specs.Int.{bit_at}
-use Rattle.std.proofs.Common.{◌≡◌, ◌≢◌, ℕ, ◌+◌, ◌*◌, ◌/◌, ◌<◌, ◌≤◌, ◌^◌, List, length, inl, inr, refl, sym, ap, subst, bit_or, arith}
+use Rattle.std.proofs.Common.{◌≡◌, ◌≢◌, ℕ, ◌*◌, ◌/◌, ◌<◌, ◌≤◌, ◌^◌, List, length, inl, inr, refl, sym, ap, subst, bit_or, arith}
 use Rattle.std.proofs.lemmas.Bool.Decides.{eqb_tells}
 use Rattle.std.proofs.lemmas.Nat.Bits.{bit_at_or}
 use Rattle.core_rule.proofs.Terms.{control_of, marked_at, scanned_at, Heap, Control, Word, spine_words_in, at, put, index_of, table_length, HasWord, address_of, word_after}
@@ -14,7 +14,7 @@ use Rattle.core_machine.specs.declared.step.Step.TheVariants as steps
 use Rattle.core_machine.specs.declared.step.TurningStep.TheVariants as turnings
 use Rattle.core_machine.specs.declared.table.address.Address.{Address}
 use Rattle.core_machine.proofs.table_lemmas.Addresses.{put_of_read_changes_nothing}
-use Rattle.core_rule.proofs.words.Addresses.{at-put_apart, written_control_is_read, written_word_is_read, other_control_stays, word_same_after_control, control_same_after_word, other_fragment_word_stays, other_part_stays}
+use Rattle.core_rule.proofs.words.Addresses.{at-put_apart, written_control_is_read, other_control_stays, word_same_after_control, control_same_after_word, other_fragment_word_stays, other_part_stays}
 use Rattle.core_rule.proofs.words.MarkBits.{giving_keeps_higher_bits}
 use Rattle.space_plan.specs.cycle_turns.ToldWords.{told_words}
 use Rattle.space_plan.proofs.cycle_turns.LosesNothing.{LosesNothing}
