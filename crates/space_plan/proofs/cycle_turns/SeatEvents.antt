@@ -6,7 +6,6 @@ use Rattle.core_rule.proofs.Terms.{control_of, marked_at, Command, Heap, Point, 
 use Rattle.core_rule.proofs.Terms.{state_after, state_after_due, Steps, Can, HasWord, address_of, Book, IsMarked, marked_bit, IsBorn, WhileAccess, spine_words_in, at, Word, row_of, field_of, Rule}
 use Rattle.heap_model.specs.declared.command.Command.TheVariants as commands
 use Rattle.core_machine.specs.declared.point.Access.{Access}
-use Rattle.core_machine.specs.declared.point.Access.TheVariants as accesses
 use Rattle.core_machine.specs.declared.point.Collecting.TheVariants as collectings
 use Rattle.core_machine.specs.declared.point.Leaving.TheVariants as leavings
 use Rattle.core_machine.specs.declared.point.Making.{Making}
@@ -74,27 +73,15 @@ module _ (heap : Heap) (state : State) (book : Book) (rule : Rule heap state boo
         untold_where_unborn _ there.0 (each_store_is_own heap state book number _ _ _ rule here due).1
 
     making_spares : (making : Making) → seat.point ≡ points.Making making → WhereDue (λ step. HasWord heap (address_of step)) (points.Making making) → DueSpares (points.Making making)
-    making_spares makings.Granting is there = tt
-    making_spares makings.Withdrawing is there = tt
-    making_spares makings.Gathering is there = tt
     making_spares makings.GivingBack is there = mask_is_small _
     making_spares makings.Refusing is there = refusal_spares seat.command _
-    making_spares makings.Placing is there = tt
-    making_spares makings.Listing is there = tt
     making_spares makings.Storing is there = store_spares is there
     making_spares makings.Bearing is there = bearing_spares (is_last_birth seat)
+    making_spares _ is there = tt
 
     access_spares : (access : Access) → seat.point ≡ points.Access access → DueSpares (points.Access access)
     access_spares Swapping is = λ first. swap_meets_untold is
-    access_spares accesses.LoadingMeta is = tt
-    access_spares accesses.Walking is = tt
-    access_spares accesses.LoadingSpot is = tt
-    access_spares accesses.Indexing is = tt
-    access_spares accesses.Getting is = tt
-    access_spares accesses.Naming is = tt
-    access_spares accesses.LoadingOld is = tt
-    access_spares accesses.ShadingOld is = tt
-    access_spares accesses.ShadingNew is = tt
+    access_spares _ is = tt
 
     due_spares : (point : Point) → seat.point ≡ point → WhereDue (λ step. HasWord heap (address_of step)) point → DueSpares point
     due_spares points.Idle is there = tt

@@ -59,22 +59,7 @@ module _ (heap : Heap) (state : State) where
       let same : (if has_answered_of state.collector.phase word then after_counted_look heap state.collector else state.collector) ≡ state.collector
       = wait_found (has_answered_of state.collector.phase word) word seat answered phase waits in
       rw (put_of_read_changes_nothing heap state.words (Answer state.collector.looked)) (subst (λ (c : Collector). cycle_left_at heap state.words c.phase c.looked c.stage ≡ cycle_left heap state) (sym same) refl)
-  wait_leaves_same (stages.Passing group found) seat answered phase here waits = absurd (cc waits)
-  wait_leaves_same (stages.Scanning scan) seat answered phase here waits = absurd (cc waits)
-  wait_leaves_same (stages.Shading scan target next) seat answered phase here waits = absurd (cc waits)
-  wait_leaves_same (stages.Addressing scan n) seat answered phase here waits = absurd (cc waits)
-  wait_leaves_same (stages.Indexing s) seat answered phase here waits = absurd (cc waits)
-  wait_leaves_same (stages.Spreading s target) seat answered phase here waits = absurd (cc waits)
-  wait_leaves_same (stages.Blackening scan) seat answered phase here waits = absurd (cc waits)
-  wait_leaves_same stages.Flipping seat answered phase here waits = absurd (cc waits)
-  wait_leaves_same (stages.Copying stage) seat answered phase here waits = absurd (cc waits)
-  wait_leaves_same (stages.Sweeping group) seat answered phase here waits = absurd (cc waits)
-  wait_leaves_same (stages.Examining group dead position n) seat answered phase here waits = absurd (cc waits)
-  wait_leaves_same (stages.Freeing group dead n) seat answered phase here waits = absurd (cc waits)
-  wait_leaves_same (stages.Returning group n) seat answered phase here waits = absurd (cc waits)
-  wait_leaves_same (stages.Clearing group kept) seat answered phase here waits = absurd (cc waits)
-  wait_leaves_same (stages.Ending kept) seat answered phase here waits = absurd (cc waits)
-  wait_leaves_same stages.Advancing seat answered phase here waits = absurd (cc waits)
+  wait_leaves_same _ seat answered phase here waits = absurd (cc waits)
 
   module _ (book : Book) (rule : Rule heap state book) where
     -- so a turn that ends no cycle leaves as many fewer as it counts
@@ -101,21 +86,7 @@ module _ (heap : Heap) (state : State) where
         by : (b : Bool) → ends_cycle (if b then Stepped else Waits state.collector.looked (at heap state.words (Answer state.collector.looked)) state.collector.phase) ≡ true → left_after stages.Looking ≡ cycle_most heap
         by true is = absurd (false≢true is)
         by false is = absurd (false≢true is)
-    ended_cycle_has_most (stages.Passing group found) here ends = absurd (false≢true ends)
-    ended_cycle_has_most (stages.Scanning scan) here ends = absurd (false≢true ends)
-    ended_cycle_has_most (stages.Shading scan target next) here ends = absurd (false≢true ends)
-    ended_cycle_has_most (stages.Addressing scan n) here ends = absurd (false≢true ends)
-    ended_cycle_has_most (stages.Indexing s) here ends = absurd (false≢true ends)
-    ended_cycle_has_most (stages.Spreading s target) here ends = absurd (false≢true ends)
-    ended_cycle_has_most (stages.Blackening scan) here ends = absurd (false≢true ends)
-    ended_cycle_has_most stages.Flipping here ends = absurd (false≢true ends)
-    ended_cycle_has_most (stages.Copying stage) here ends = absurd (false≢true ends)
-    ended_cycle_has_most (stages.Sweeping group) here ends = absurd (false≢true ends)
-    ended_cycle_has_most (stages.Examining group dead position n) here ends = absurd (false≢true ends)
-    ended_cycle_has_most (stages.Freeing group dead n) here ends = absurd (false≢true ends)
-    ended_cycle_has_most (stages.Returning group n) here ends = absurd (false≢true ends)
-    ended_cycle_has_most (stages.Clearing group kept) here ends = absurd (false≢true ends)
-    ended_cycle_has_most stages.Advancing here ends = absurd (false≢true ends)
+    ended_cycle_has_most _ here ends = absurd (false≢true ends)
 
 -- so behind an end as many are left as a cycle has at most
 pub each_end_leaves_most : EachEndLeavesMost
