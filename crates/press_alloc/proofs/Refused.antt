@@ -12,8 +12,10 @@ use Rattle.heap_model.specs.declared.heap.Heap.{Heap}
 use Rattle.heap_model.specs.declared.id.Id.{Id}
 use Rattle.heap_model.specs.declared.reply.Reply.{Reply}
 use Rattle.heap_model.specs.declared.reply.Reply.TheVariants.{Made, Full, SpineFull}
+use Rattle.heap_model.specs.declared.account.effect.Effect.{Effect}
 use Rattle.heap_model.specs.account.Account.{IsLegal, KeepsSpace}
 use Rattle.heap_model.specs.account.Cycles.{graph_of}
+use Rattle.heap_model.specs.account.Effects.{effect_of}
 use Rattle.heap_model.specs.account.Refusals.{FindsSpace, FindsSpine, ShowsSpace, ShowsSpine}
 use Rattle.heap_model.specs.account.Space.{total, taken_of, spent_of, fragments_unborn}
 use Rattle.heap_model.specs.account.Windows.{is_reply_to, up_to_reply, since_reply}
@@ -22,7 +24,7 @@ use Rattle.heap_model.specs.graph.Reach.{IsReach}
 use Rattle.heap_model.specs.graph.Sizes.{fragments_of_all, spine_words_of_all}
 use Rattle.heap_model.proofs.Histories.{total-more}
 use Rattle.heap_model.proofs.account_lemmas.Windows.{up_to_last-yes, after_last-yes}
-use Rattle.press_alloc.specs.Calls.{MayCall, AddsCall}
+use Rattle.press_alloc.specs.Calls.{MayCall, AddsCall, IsNoReply}
 use Rattle.press_alloc.specs.Presses.{IsAllocation, RefusesSpace, CallsAgain, IsPressed}
 use Rattle.press_alloc.specs.Refusals.{ExceedsFragments, ExceedsWords, HasNoFragments, HasNoWords, HoldsCycle, HasCollected}
 use Rattle.press_alloc.proofs.Bounds.{fragments_left, words_left}
@@ -31,7 +33,7 @@ use Rattle.press_alloc.proofs.Collected.{begin_of, cycle_in_collect}
 use Rattle.press_alloc.proofs.Fronts.{front_is_legal, entry_keeps_rules}
 use Rattle.press_alloc.proofs.Seats.{TellsAll, one_seat_tells_all}
 use Rattle.press_alloc.proofs.Sections.{total-append}
-use Rattle.press_alloc.proofs.Silence.{nothing_born, nothing_granted, nothing_taken, nothing_given}
+use Rattle.press_alloc.proofs.Silence.{adds_nothing, none_is_born, none_is_granted}
 
 -- no collect makes an object
 made_by_collect : (answer : Reply) → made_by Collect answer ≡ 0
@@ -129,46 +131,34 @@ module _ (heap : Heap) (number : ℕ) (within : number < heap.seats) (one : heap
         total-more (λ e. e.taken) till_refusal entry,
       )
 
-  -- what was told from the refusal to the last reply makes no object
+  -- what neither a collect nor an entry without a reply adds to is as it was from the refusal to the last reply
+  module _ (summand : Effect → ℕ) (none : (entry : Entry) → IsNoReply entry → summand (effect_of entry) ≡ 0) (none_of_collect : summand (effect_of (Said number Collect calls.answer)) ≡ 0) where
+    stays : total summand till_reply ≡ total summand calls.refused
+    stays = omega (
+      arith,
+      total-append summand calls.collected calls.again.before,
+      adds_nothing IsNoReply summand none calls.again.before calls.again.one_reply,
+      ap (total summand) collected_is,
+      total-more summand till_answer (Said number Collect calls.answer),
+      none_of_collect,
+      total-append summand calls.refused calls.collects.before,
+      adds_nothing IsNoReply summand none calls.collects.before calls.collects.one_reply,
+    )
+
+  -- so no object is made, and no spine word granted
   born_stays : total (λ e. e.born) till_reply ≡ total (λ e. e.born) calls.refused
-  born_stays = omega (
-    arith,
-    total-append (λ e. e.born) calls.collected calls.again.before,
-    nothing_born calls.again.before calls.again.one_reply,
-    ap (total (λ e. e.born)) collected_is,
-    total-more (λ e. e.born) till_answer (Said number Collect calls.answer),
-    made_by_collect calls.answer,
-    total-append (λ e. e.born) calls.refused calls.collects.before,
-    nothing_born calls.collects.before calls.collects.one_reply,
-  )
+  born_stays = stays (λ e. e.born) none_is_born (made_by_collect calls.answer)
 
   granted_stays : total (λ e. e.words) till_reply ≡ total (λ e. e.words) calls.refused
-  granted_stays = omega (
-    arith,
-    total-append (λ e. e.words) calls.collected calls.again.before,
-    nothing_granted calls.again.before calls.again.one_reply,
-    ap (total (λ e. e.words)) collected_is,
-    total-more (λ e. e.words) till_answer (Said number Collect calls.answer),
-    words_by_collect calls.answer,
-    total-append (λ e. e.words) calls.refused calls.collects.before,
-    nothing_granted calls.collects.before calls.collects.one_reply,
-  )
+  granted_stays = stays (λ e. e.words) none_is_granted (words_by_collect calls.answer)
 
   -- what was freed and returned by the end of the collect stays so
-  freed_stays : total (λ e. e.freed) till_answer ≤ total (λ e. e.freed) till_reply
-  freed_stays = omega (
+  grows : (summand : Effect → ℕ) → total summand till_answer ≤ total summand till_reply
+  grows summand = omega (
     arith,
-    total-append (λ e. e.freed) calls.collected calls.again.before,
-    ap (total (λ e. e.freed)) collected_is,
-    total-more (λ e. e.freed) till_answer (Said number Collect calls.answer),
-  )
-
-  returned_stays : total (λ e. e.returned) till_answer ≤ total (λ e. e.returned) till_reply
-  returned_stays = omega (
-    arith,
-    total-append (λ e. e.returned) calls.collected calls.again.before,
-    ap (total (λ e. e.returned)) collected_is,
-    total-more (λ e. e.returned) till_answer (Said number Collect calls.answer),
+    total-append summand calls.collected calls.again.before,
+    ap (total summand) collected_is,
+    total-more summand till_answer (Said number Collect calls.answer),
   )
 
   -- what is reached is the same as right after the refusal
@@ -183,14 +173,14 @@ module _ (heap : Heap) (number : ℕ) (within : number < heap.seats) (one : heap
         let then = one_seat_tells_all heap number within one calls.refused refused_legal.objects in
         let left = fragments_left heap number within one calls.refused calls.collects.before held parted fresh calls.collects.one_reply (calls.collects.moves_nothing refl)
         (front_is_legal heap true till_answer (Said number Collect calls.answer ∷ []) answer_legal) reached reaches in
-        omega (arith, finds, left, now.taken, now.spent, then.taken, then.spent, solvent, born_stays, freed_stays)
+        omega (arith, finds, left, now.taken, now.spent, then.taken, then.spent, solvent, born_stays, grows (λ e. e.freed))
 
     -- and the spine words in use are at most those of what is reached
     shown_is_reached : (shown : ℕ) → FindsSpine heap true till_reply number shown → shown ≤ spine_words_of_all (graph_of heap calls.refused) reached
     shown_is_reached shown finds =
         let left = words_left heap number within one calls.refused calls.collects.before held parted fresh calls.collects.one_reply (calls.collects.moves_nothing refl)
         (front_is_legal heap true till_answer (Said number Collect calls.answer ∷ []) answer_legal) reached reaches in
-        omega (arith, finds, left, granted_stays, returned_stays)
+        omega (arith, finds, left, granted_stays, grows (λ e. e.returned))
 
   -- what the last reply shows is right
   last_keeps : KeepsSpace heap true till_reply (Said number command reply)

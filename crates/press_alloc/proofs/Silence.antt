@@ -13,7 +13,7 @@ use Rattle.heap_model.specs.graph.Growth.{graph_after}
 use Rattle.press_alloc.specs.Calls.{IsNoReply, MovesNothing}
 
 -- where no entry adds to a count, they all add nothing
-adds_nothing : (P : Entry → Type 0) (summand : Effect → ℕ) → ((entry : Entry) → P entry → summand (effect_of entry) ≡ 0) → (added : List Entry) → AllByRecursion P added → total summand added ≡ 0
+pub adds_nothing : (P : Entry → Type 0) (summand : Effect → ℕ) → ((entry : Entry) → P entry → summand (effect_of entry) ≡ 0) → (added : List Entry) → AllByRecursion P added → total summand added ≡ 0
 adds_nothing P summand none [] all = refl
 adds_nothing P summand none (entry ∷ added) all = omega (arith, sum_by-cons (λ e. summand (effect_of e)) entry added, none entry all.0, adds_nothing P summand none added all.1)
 
@@ -34,22 +34,18 @@ module _ (added : List Entry) (moves : AllByRecursion MovesNothing added) where
       none (GivesBack number count) moves_ = absurd moves_
       none entry moves_ = refl
 
-module _ (added : List Entry) (silent : AllByRecursion IsNoReply added) where
-  -- nothing is made into an object
-  pub nothing_born : total (λ e. e.born) added ≡ 0
-  nothing_born = adds_nothing IsNoReply (λ e. e.born) none added silent
-    where
-      none : (entry : Entry) → IsNoReply entry → (effect_of entry).born ≡ 0
-      none (Said number command reply) silent_ = absurd silent_
-      none entry silent_ = refl
+-- an entry without a reply makes no object
+pub none_is_born : (entry : Entry) → IsNoReply entry → (effect_of entry).born ≡ 0
+none_is_born (Said number command reply) silent = absurd silent
+none_is_born entry silent = refl
 
-  -- no spine words are granted
-  pub nothing_granted : total (λ e. e.words) added ≡ 0
-  nothing_granted = adds_nothing IsNoReply (λ e. e.words) none added silent
-    where
-      none : (entry : Entry) → IsNoReply entry → (effect_of entry).words ≡ 0
-      none (Said number command reply) silent_ = absurd silent_
-      none entry silent_ = refl
+-- and grants no spine word
+pub none_is_granted : (entry : Entry) → IsNoReply entry → (effect_of entry).words ≡ 0
+none_is_granted (Said number command reply) silent = absurd silent
+none_is_granted entry silent = refl
+
+pub nothing_granted : (added : List Entry) → AllByRecursion IsNoReply added → total (λ e. e.words) added ≡ 0
+nothing_granted added silent = adds_nothing IsNoReply (λ e. e.words) none_is_granted added silent
 
 -- what is so of all entries is so of the first ones and of the others
 pub all_of_parts : (P : Entry → Type 0) (first more : List Entry) → AllByRecursion P (first ++ more) → AllByRecursion P first × AllByRecursion P more
