@@ -3,7 +3,7 @@ use Rattle.std.specs.Int.{bit_at}
 use Rattle.std.proofs.Common.{◌≡◌, ◌≢◌, ℕ, ◌*◌, ◌/◌, ◌<◌, ◌≤◌, ◌^◌, List, length, inl, inr, refl, sym, ap, subst, bit_or, arith}
 use Rattle.std.proofs.lemmas.Bool.Decides.{eqb_tells}
 use Rattle.std.proofs.lemmas.Nat.Bits.{bit_at_or}
-use Rattle.core_rule.proofs.Terms.{control_of, marked_at, scanned_at, Heap, Control, Word, spine_words_in, at, put, index_of, table_length, HasWord, address_of, word_after}
+use Rattle.core_rule.proofs.Terms.{control_of, marked_at, scanned_at, Heap, Control, Spine, Word, spine_words_in, at, put, index_of, table_length, HasWord, address_of, word_after}
 use Rattle.core_machine.specs.declared.step.AccessStep.TheVariants as accesses
 use Rattle.core_machine.specs.declared.step.CopyingStep.TheVariants as copyings
 use Rattle.core_machine.specs.declared.step.HandshakeStep.TheVariants as handshakes
@@ -38,7 +38,7 @@ module _ (heap : Heap) (words : List ℕ) where
     told = λ f below. where_set_grows _ _ _ _ (bits f (marked_at f) below (omega arith) (omega arith)) (omega (arith, ap spine_words_in (same f below)));
   }
 
-  pub loses_nothing_of_itself : LosesNothing heap words words
+  loses_nothing_of_itself : LosesNothing heap words words
   loses_nothing_of_itself = loses_nothing_by_bits words (λ f i below from upto. omega arith) (λ f below. refl)
 
   module _ (whole : length words ≡ table_length heap) where
@@ -48,6 +48,13 @@ module _ (heap : Heap) (words : List ℕ) where
     beside a n control word = loses_nothing_by_bits (put heap words a n)
         (λ f i below from upto. omega (arith, ap (λ w. bit_at w i) (at-put_apart heap words a (Control (f / 16)) n (control (f / 16) (omega (arith, below))))))
         (λ f below. at-put_apart heap words a (Word f 0) n (word f below))
+
+    -- before the control words, and behind the fragments' words
+    early : (a : Address) (n : ℕ) → index_of heap a < 19 → LosesNothing heap words (put heap words a n)
+    early a n before = beside a n (λ g below e. omega (arith, e, before)) (λ f below e. omega (arith, e, before))
+
+    on_spine : (half offset n : ℕ) → LosesNothing heap words (put heap words (Spine half offset) n)
+    on_spine half offset n = beside (Spine half offset) n (λ g below e. omega (arith, e, below)) (λ f below e. omega (arith, e, below))
 
     -- on a control word, of which no bit of a mark falls
     on_control : (g n : ℕ) → g < heap.groups → ((i : ℕ) → 32 ≤ i → i < 64 → bit_at (at heap words (Control g)) i ≤ bit_at n i) → LosesNothing heap words (put heap words (Control g) n)
@@ -101,22 +108,22 @@ module _ (heap : Heap) (words : List ℕ) where
     step_loses_nothing (steps.Access (accesses.OldLoad fragment part)) there spares = loaded _
     step_loses_nothing (steps.Access (accesses.Shade fragment)) there spares = by_or (fragment / 16) _ there
     step_loses_nothing (steps.Access (accesses.Swap fragment part word)) there spares = on_word fragment part _ there spares
-    step_loses_nothing (steps.Spine (spines.BudgetAdd n)) there spares = beside _ _ (λ g below e. omega (arith, e)) (λ f below e. omega (arith, e))
-    step_loses_nothing (steps.Spine (spines.BudgetTakeBack n)) there spares = beside _ _ (λ g below e. omega (arith, e)) (λ f below e. omega (arith, e))
-    step_loses_nothing (steps.Spine (spines.SpotClaim n)) there spares = beside _ _ (λ g below e. omega (arith, e)) (λ f below e. omega (arith, e))
-    step_loses_nothing (steps.Spine (spines.SpineStore half offset fragment)) there spares = beside _ _ (λ g below e. omega (arith, e, below)) (λ f below e. omega (arith, e, below))
+    step_loses_nothing (steps.Spine (spines.BudgetAdd n)) there spares = early _ _ (omega arith)
+    step_loses_nothing (steps.Spine (spines.BudgetTakeBack n)) there spares = early _ _ (omega arith)
+    step_loses_nothing (steps.Spine (spines.SpotClaim n)) there spares = early _ _ (omega arith)
+    step_loses_nothing (steps.Spine (spines.SpineStore half offset fragment)) there spares = on_spine half offset _
     step_loses_nothing (steps.Spine (spines.AddressLoad sentinel)) there spares = loaded _
     step_loses_nothing (steps.Spine (spines.WordLoad half offset)) there spares = loaded _
-    step_loses_nothing (steps.Handshake (handshakes.AnswerStore seat phase)) there spares = beside _ _ (λ g below e. omega (arith, e, there)) (λ f below e. omega (arith, e, there))
-    step_loses_nothing (steps.Handshake (handshakes.LeaveStore seat)) there spares = beside _ _ (λ g below e. omega (arith, e, there)) (λ f below e. omega (arith, e, there))
-    step_loses_nothing (steps.Copying (copyings.FlipStore half)) there spares = beside _ _ (λ g below e. omega (arith, e)) (λ f below e. omega (arith, e))
-    step_loses_nothing (steps.Copying (copyings.CopyClaim n)) there spares = beside _ _ (λ g below e. omega (arith, e)) (λ f below e. omega (arith, e))
+    step_loses_nothing (steps.Handshake (handshakes.AnswerStore seat phase)) there spares = early _ _ (omega (arith, there))
+    step_loses_nothing (steps.Handshake (handshakes.LeaveStore seat)) there spares = early _ _ (omega (arith, there))
+    step_loses_nothing (steps.Copying (copyings.FlipStore half)) there spares = early _ _ (omega arith)
+    step_loses_nothing (steps.Copying (copyings.CopyClaim n)) there spares = early _ _ (omega arith)
     step_loses_nothing (steps.Copying (copyings.CopyLoad half offset)) there spares = loaded _
-    step_loses_nothing (steps.Copying (copyings.CopyStore half offset word)) there spares = beside _ _ (λ g below e. omega (arith, e, below)) (λ f below e. omega (arith, e, below))
+    step_loses_nothing (steps.Copying (copyings.CopyStore half offset word)) there spares = on_spine half offset _
     step_loses_nothing (steps.Copying (copyings.SwingStore sentinel spot)) there spares = on_word sentinel 2 _ there (λ first. absurd (omega (arith, first)))
-    step_loses_nothing (steps.Copying (copyings.BudgetReturn n)) there spares = beside _ _ (λ g below e. omega (arith, e)) (λ f below e. omega (arith, e))
+    step_loses_nothing (steps.Copying (copyings.BudgetReturn n)) there spares = early _ _ (omega arith)
     step_loses_nothing (steps.Turning (turnings.LookLoad seat)) there spares = loaded _
-    step_loses_nothing (steps.Turning (turnings.AdvanceStore phase)) there spares = beside _ _ (λ g below e. omega (arith, e)) (λ f below e. omega (arith, e))
+    step_loses_nothing (steps.Turning (turnings.AdvanceStore phase)) there spares = early _ _ (omega arith)
     step_loses_nothing (steps.Turning (turnings.GroupLoad group)) there spares = loaded _
     step_loses_nothing (steps.Turning (turnings.ScanLoad fragment part)) there spares = loaded _
     step_loses_nothing (steps.Turning (turnings.MarkShade fragment)) there spares = by_or (fragment / 16) _ there
@@ -124,4 +131,4 @@ module _ (heap : Heap) (words : List ℕ) where
     step_loses_nothing (steps.Turning (turnings.MetaLoad fragment)) there spares = loaded _
     step_loses_nothing (steps.Turning (turnings.Free group bits)) there spares = absurd spares
     step_loses_nothing (steps.Turning (turnings.Clear group)) there spares = absurd spares
-    step_loses_nothing (steps.Turning (turnings.EndAdvance phase kept)) there spares = beside _ _ (λ g below e. omega (arith, e)) (λ f below e. omega (arith, e))
+    step_loses_nothing (steps.Turning (turnings.EndAdvance phase kept)) there spares = early _ _ (omega arith)
