@@ -1,1 +1,2 @@
 pub mod cycle_turns
+pub mod plan_lemmas

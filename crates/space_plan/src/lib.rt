@@ -1,6 +1,12 @@
-//! What a plan of a heap's space and of its collector's turns rests on.
+//! What a legal play tells of the space that it needs, and how many turns of the collector a cycle takes at most.
 #![tactic(auto)]
 
 mod law;
+mod planning;
+mod report;
+#[cfg(test)]
+mod tests;
 
 pub use law::law_cycle_turns;
+pub use planning::plan;
+pub use report::{CyclePlan, PlanReport};

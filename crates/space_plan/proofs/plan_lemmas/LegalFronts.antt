@@ -1,0 +1,126 @@
+-- What the rules of space say within a history that keeps them: at each entry, and of each seat after its replies.
+use Rattle.std.proofs.Common.{◌≡◌, ℕ, ◌+◌, ◌-◌, ◌≤◌, List, [], ◌∷◌, ◌++◌, inl, inr, Bool, true, false, ◌||◌, cond, append_assoc, refl, sym, ap, ◌∙◌, subst, arith}
+use Rattle.std.specs.List.{list_any}
+use Rattle.std.proofs.lemmas.Bool.{cases_Bool, cond-true, cond-false, eqb-true}
+use Rattle.std.proofs.lemmas.List.{append-nil}
+use Rattle.heap_model.specs.declared.command.Command.{Command}
+use Rattle.heap_model.specs.declared.command.Command.TheVariants as commands
+use Rattle.heap_model.specs.declared.entry.Entry.{Entry}
+use Rattle.heap_model.specs.declared.entry.Entry.TheVariants as entries
+use Rattle.heap_model.specs.declared.heap.Heap.{Heap}
+use Rattle.heap_model.specs.account.Effects.{effect_of}
+use Rattle.heap_model.specs.account.PhaseCounts.{phase}
+use Rattle.heap_model.specs.account.Account.{KeepsSpace, KeepsSpaceAfter, MakesOfOwn, most_kept}
+use Rattle.heap_model.specs.account.Space.{total_of, taken_of, spent_of, fragments_unborn, made_by}
+use Rattle.heap_model.specs.account.Windows.{begins_cycle, is_reply_to, up_to_last, after_last, up_to_reply}
+use Rattle.heap_model.proofs.Histories.{total-more, total_of-more}
+use Rattle.heap_model.proofs.account_lemmas.Windows.{window_sections_make_whole}
+use Rattle.reply_text.specs.write.Counts.{is_end}
+
+-- an entry keeps the rules after those before it
+pub keeps_after_front : (heap : Heap) (before front : List Entry) (entry : Entry) (rest : List Entry) → KeepsSpaceAfter heap true before (front ++ entry ∷ rest) → KeepsSpace heap true (before ++ front) entry
+keeps_after_front heap before [] entry rest kept = subst (λ b. KeepsSpace heap true b entry) (sym (append-nil before)) kept.0
+keeps_after_front heap before (x ∷ front) entry rest kept =
+    subst (λ b. KeepsSpace heap true b entry) (append_assoc before (x ∷ []) front) (keeps_after_front heap (before ++ x ∷ []) front entry rest kept.1)
+
+-- so do the entries of a front
+keeps_front : (heap : Heap) (before front rest : List Entry) → KeepsSpaceAfter heap true before (front ++ rest) → KeepsSpaceAfter heap true before front
+keeps_front heap before [] rest kept = tt
+keeps_front heap before (x ∷ front) rest kept = (kept.0, keeps_front heap (before ++ x ∷ []) front rest kept.1)
+
+-- where no entry passes the test, all entries stand after the last that does
+pub no_last : (test : Entry → Bool) (history : List Entry) → list_any test history ≡ false → (up_to_last test history ≡ []) × (after_last test history ≡ history)
+no_last test [] none = (refl, refl)
+no_last test (x ∷ xs) none = (cond-false _ (x ∷ up_to_last test xs) [] none, cond-false _ (after_last test xs) (x ∷ xs) none)
+
+-- the last entry that passes the test, and those before it
+pub record HasLast (test : Entry → Bool) (history : List Entry) : Type 0 where
+  pub front : List Entry
+  pub entry : Entry
+  pub passes : test entry ≡ true
+  pub is : up_to_last test history ≡ front ++ entry ∷ []
+
+-- where some entry passes the test there is a last one
+pub has_last : (test : Entry → Bool) (history : List Entry) → list_any test history ≡ true → HasLast test history
+has_last test [] any = absurd (cc any)
+has_last test (x ∷ xs) any = elim (cases_Bool (list_any test xs)) [
+  | inl later ↦ (let rest = has_last test xs later in record {
+    front = x ∷ rest.front;
+    entry = rest.entry;
+    passes = rest.passes;
+    is = cond-true _ (x ∷ up_to_last test xs) [] any ∙ ap (λ es. x ∷ es) rest.is;
+  })
+  | inr none ↦ record {
+    front = [];
+    entry = x;
+    passes = here (test x) none any;
+    is = cond-true _ (x ∷ up_to_last test xs) [] any ∙ ap (λ es. x ∷ es) (no_last test xs none).0;
+  }
+]
+  where
+    here : (b : Bool) → list_any test xs ≡ false → list_any test (x ∷ xs) ≡ true → test x ≡ true
+    here b none any = grind (arith, none, any)
+
+-- the history is the entries before that one, it, and those after it
+pub parted_at_last : (test : Entry → Bool) (history : List Entry) (last : HasLast test history) → history ≡ last.front ++ last.entry ∷ after_last test history
+parted_at_last test history last =
+    sym (window_sections_make_whole test history) ∙ ap (λ es. es ++ after_last test history) last.is ∙ append_assoc last.front (last.entry ∷ []) (after_last test history)
+
+most_kept_is_small : (command : Command) → most_kept command ≤ 15
+most_kept_is_small commands.Leave = omega arith
+most_kept_is_small command = omega arith
+
+-- after a reply a seat has a reserve at most
+after_reply_is_small : (number : ℕ) (front : List Entry) (entry : Entry) → is_reply_to number entry ≡ true → MakesOfOwn front entry → fragments_unborn number (front ++ entry ∷ []) ≤ 15
+after_reply_is_small number front (entries.Said other command reply) replies makes =
+    let entry : Entry = entries.Said other command reply in
+    let same : other ≡ number = eqb-true other number replies in
+    let own : taken_of number front ≤ spent_of number front + made_by command reply + most_kept command =
+    subst (λ x. taken_of x front ≤ spent_of x front + made_by command reply + most_kept command) same makes.1 in
+    let given = total_of-more number (λ e. e.given) front entry ∙ ap (λ n. total_of number (λ e. e.given) front + n) (cond-true _ 0 0 replies) in
+    let born = total_of-more number (λ e. e.born) front entry ∙ ap (λ n. total_of number (λ e. e.born) front + n) (cond-true _ (made_by command reply) 0 replies) in
+    let taken = total_of-more number (λ e. e.taken) front entry ∙ ap (λ n. total_of number (λ e. e.taken) front + n) (cond-true _ 0 0 replies) in
+    omega (arith, own, given, born, taken, most_kept_is_small command)
+after_reply_is_small number front entry replies makes = absurd (cc replies)
+
+-- so each seat has a reserve at most right after its last reply
+pub reserve_is_small : (heap : Heap) (history rest : List Entry) (number : ℕ) → KeepsSpaceAfter heap true [] (history ++ rest) → fragments_unborn number (up_to_reply number history) ≤ 15
+reserve_is_small heap history rest number kept = elim (cases_Bool (list_any (is_reply_to number) history)) [
+  | inl any ↦ (let last = has_last (is_reply_to number) history any in
+      let whole : history ++ rest ≡ last.front ++ last.entry ∷ (after_last (is_reply_to number) history ++ rest) =
+      ap (λ es. es ++ rest) (parted_at_last (is_reply_to number) history last) ∙ append_assoc last.front (last.entry ∷ after_last (is_reply_to number) history) rest in
+      let keeps = keeps_after_front heap [] last.front last.entry _ (subst (λ es. KeepsSpaceAfter heap true [] es) whole kept) in
+      subst (λ es. fragments_unborn number es ≤ 15) (sym last.is) (after_reply_is_small number last.front last.entry last.passes keeps.makes))
+  | inr none ↦ subst (λ es. fragments_unborn number es ≤ 15) (sym (no_last (is_reply_to number) history none).0) (omega arith)
+]
+
+-- the phase stays the first one as long as no cycle begins
+quiet_entry : (heap : Heap) (before : List Entry) (entry : Entry) → KeepsSpace heap true before entry → phase before ≡ 0 → begins_cycle entry ≡ false → (effect_of entry).phases ≡ 0
+quiet_entry heap before (entries.Advance p) keeps zeroth other =
+    let first : p ≡ 1 = omega (arith, keeps.begins.0, zeroth) in
+    let there : begins_cycle (entries.Advance 1) ≡ false = subst (λ n. begins_cycle (entries.Advance n) ≡ false) first other in
+    absurd (cc there)
+quiet_entry heap before (entries.Ends cycle kept) keeps zeroth other = absurd (omega (arith, keeps.ends.0.0, zeroth))
+quiet_entry heap before entry keeps zeroth other = refl
+
+no_begin_no_phase : (heap : Heap) (before rest : List Entry) → KeepsSpaceAfter heap true before rest → phase before ≡ 0 → list_any begins_cycle rest ≡ false → phase (before ++ rest) ≡ 0
+no_begin_no_phase heap before [] kept zeroth none = ap phase (append-nil before) ∙ zeroth
+no_begin_no_phase heap before (entry ∷ rest) kept zeroth none =
+    let parts = or_parts (begins_cycle entry) (list_any begins_cycle rest) none in
+    ap phase (sym (append_assoc before (entry ∷ []) rest))
+    ∙ no_begin_no_phase heap (before ++ entry ∷ []) rest kept.1 (omega (arith, total-more (λ e. e.phases) before entry, zeroth, quiet_entry heap before entry kept.0 zeroth parts.0)) parts.1
+  where
+    or_parts : (a b : Bool) → (a || b) ≡ false → (a ≡ false) × (b ≡ false)
+    or_parts true b none = absurd (cc none)
+    or_parts false b none = (refl, none)
+
+-- where a cycle ends, one has begun
+pub begun_before_end : (heap : Heap) (front : List Entry) (entry : Entry) (rest : List Entry) → KeepsSpaceAfter heap true [] (front ++ entry ∷ rest) → is_end entry ≡ true → list_any begins_cycle front ≡ true
+begun_before_end heap front entry rest kept ends = elim (cases_Bool (list_any begins_cycle front)) [
+  | inl any ↦ any
+  | inr none ↦ absurd (late entry (keeps_after_front heap [] front entry rest kept) ends (no_begin_no_phase heap [] front (keeps_front heap [] front (entry ∷ rest) kept) refl none))
+]
+  where
+    late : (e : Entry) → KeepsSpace heap true front e → is_end e ≡ true → phase front ≡ 0 → ⊥
+    late (entries.Ends cycle left) keeps ends zeroth = omega (arith, keeps.ends.0.0, zeroth)
+    late e keeps ends zeroth = cc ends

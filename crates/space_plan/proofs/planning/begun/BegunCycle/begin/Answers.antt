@@ -1,0 +1,18 @@
+use Rattle.std.proofs.Common.{◌≡◌, max, refl, arith}
+use Rattle.space_plan.proofs.plan_lemmas.CycleSums.{BegunTells-begin}
+use Rattle.space_plan.proofs.planning.begun.BegunCycle.begin.Goals as goal
+
+pub returns-clause-tells : goal.returns-clause-tells
+returns-clause-tells c = λ history entry begins ledger graph greatest.
+    let heap = c.args.ledger.now.heap in
+    let most : c.max.result ≡ max c.args.most_reach c.in_ok-reach.reach = omega arith in
+    BegunTells-begin heap history entry c.args.graph.now _ begins graph c.in_ok-reach.ensures.reach
+    (c.reserves.ensures.tells heap _ refl ledger.seats) (c.taken_since_replies.ensures.tells heap _ refl ledger.seats) c.args.most_reach most greatest
+
+pub returns-clause-fits : goal.returns-clause-fits
+returns-clause-fits c = λ n made ledger most. record {
+  reach = omega (arith, made, c.in_ok-reach.ensures.fits);
+  reserves = c.reserves.ensures.fits n ledger.seats;
+  since = c.taken_since_replies.ensures.fits n ledger.seats;
+  most_reach = omega (arith, made, most, c.in_ok-reach.ensures.fits);
+}

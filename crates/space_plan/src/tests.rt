@@ -1,0 +1,102 @@
+//! Plans of worked histories.
+
+use crate::{CyclePlan, PlanReport, plan};
+use reply_text::read_history;
+use script_text::Form;
+use std::alloc::Global;
+use std::test::Fail;
+
+/// A play in which nothing is made.
+const EMPTY: &[u8] = b"history 1 play\nheap 1 0 1\nspace used 11 of 16 spine 0 of 0\n0 leave = ok\n\
+    c phase 1\nc phase 2\nc phase 3\nc phase 4\nc phase 5\nc frees 11\nc phase 6\nc ends 0 kept 0\nend used 0\n";
+
+/// A play that refuses a record, while its seat has a reserve.
+const RESERVE: &[u8] = b"history 1 play\nheap 1 0 1\n\
+    0 takes 5\n0 new 1 2 = 0.0\n0 new 2 47 = full need 16 found 4\n0 nil 1 = ok\n\
+    c phase 1\n0 answers 1\nc phase 2\n0 answers 2\nc phase 3\n0 answers 3\nc phase 4\n0 answers 4\n\
+    c phase 5\n0 answers 5\nc frees 1\nc phase 6\n0 answers 6\nc ends 0 kept 15\n0 collect = cycle 0\n\
+    space used 15 of 16 spine 0 of 0\n\
+    0 gives back 4\n0 leave = ok\n\
+    c phase 8\nc phase 9\nc phase 10\nc phase 11\nc phase 12\nc frees 11\nc phase 13\nc ends 1 kept 0\n\
+    end used 0\n";
+
+/// A play of two seats, of which one has taken fragments for a call when the cycle begins.
+const IN_FLIGHT: &[u8] = b"history 1 play\nheap 2 0 2\n\
+    0 takes 3\n0 new 1 2 = 0.0\n1 takes 4\nc phase 1\n0 answers 1\n1 takes 1\n1 answers 1\n1 new 1 8 = 1.0\n\
+    c phase 2\n0 answers 2\n1 answers 2\nc phase 3\n0 answers 3\n1 answers 3\nc phase 4\n0 answers 4\n1 answers 4\n\
+    c phase 5\n0 answers 5\n1 answers 5\nc phase 6\n0 answers 6\n1 answers 6\nc ends 0 kept 19\n\
+    space used 19 of 32 spine 0 of 0\nend used 19\n";
+
+/// The plan of the text, which is a legal play.
+fn plan_of(alloc: Global, text: &[u8]) -> Result<PlanReport, Fail> {
+    let history = read_history(alloc, text)?;
+    match history.form {
+        Form::Play => {
+            let report = plan(alloc, &history)?;
+            Ok(report)
+        }
+        Form::Run => Err("a run".into()),
+    }
+}
+
+/// The greatest numbers of a report, the groups, the turns and the refusals.
+fn totals(report: &PlanReport) -> [u64; 6] {
+    [
+        report.most_reach,
+        report.most_takes,
+        report.most_need,
+        report.groups,
+        report.turns,
+        report.full,
+    ]
+}
+
+#[test]
+fn plans_a_play_of_nothing(rt: HostRuntime) -> Result<(), Fail> {
+    let report = plan_of(rt.alloc(), EMPTY)?;
+    assert_eq!(rt; totals(&report), [11, 0, 0, 2, 325, 0]);
+    assert_eq!(rt; report.cycles.len(), 1);
+    Ok(())
+}
+
+#[test]
+fn plans_a_play_that_refuses(rt: HostRuntime) -> Result<(), Fail> {
+    let report = plan_of(rt.alloc(), RESERVE)?;
+    assert_eq!(rt; totals(&report), [11, 5, 16, 4, 325, 1]);
+    let cycles = [
+        CyclePlan {
+            cycle: 0,
+            reach: 11,
+            since: 0,
+            bound: 15,
+            used: 15,
+            kept: 15,
+        },
+        CyclePlan {
+            cycle: 1,
+            reach: 0,
+            since: 0,
+            bound: 0,
+            used: 0,
+            kept: 0,
+        },
+    ];
+    assert_eq!(rt; report.cycles.as_slice(), cycles.as_slice());
+    Ok(())
+}
+
+#[test]
+fn plans_a_call_in_flight(rt: HostRuntime) -> Result<(), Fail> {
+    let report = plan_of(rt.alloc(), IN_FLIGHT)?;
+    assert_eq!(rt; totals(&report), [12, 8, 3, 4, 674, 0]);
+    let cycles = [CyclePlan {
+        cycle: 0,
+        reach: 12,
+        since: 5,
+        bound: 19,
+        used: 19,
+        kept: 19,
+    }];
+    assert_eq!(rt; report.cycles.as_slice(), cycles.as_slice());
+    Ok(())
+}
