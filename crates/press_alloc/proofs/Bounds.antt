@@ -1,8 +1,7 @@
 -- What is in use behind a cycle that began and ended in a collect of the one seat.
-use Rattle.std.proofs.Common.{◌≡◌, ◌≢◌, ℕ, ◌+◌, ◌-◌, ◌*◌, ◌%◌, ◌==◌, ◌<◌, ◌≤◌, true, false, List, [], ◌∷◌, ◌++◌, refl, sym, ap, ◌∙◌, subst, append_assoc, arith}
+use Rattle.std.proofs.Common.{◌≡◌, ℕ, ◌+◌, ◌*◌, ◌%◌, ◌<◌, ◌≤◌, true, false, List, [], ◌∷◌, ◌++◌, refl, sym, ap, ◌∙◌, subst, append_assoc, arith}
 use Rattle.std.specs.List.{AllByRecursion, list_any, range_with_len, sum_by}
 use Rattle.std.proofs.lemmas.Bool.{eq-eqb, ne_eqb, or_from}
-use Rattle.std.proofs.lemmas.List.{append-nil}
 use Rattle.std.proofs.lemmas.List.Sums.{fold-append, sum_by-cons}
 use Rattle.heap_model.specs.Board.{board_fragments}
 use Rattle.heap_model.specs.PhasePlan.{cycle_phases, barriers}
@@ -16,7 +15,7 @@ use Rattle.heap_model.specs.account.Effects.{effect_of}
 use Rattle.heap_model.specs.account.PhaseCounts.{phase}
 use Rattle.heap_model.specs.account.Space.{total, taken_of, fragments_unborn}
 use Rattle.heap_model.specs.account.Windows.{is_reply_to, begins_cycle, up_to_reply, since_reply, up_to_cycle, since_cycle}
-use Rattle.heap_model.specs.graph.Graph.{Graph, opening}
+use Rattle.heap_model.specs.graph.Graph.{opening}
 use Rattle.heap_model.specs.graph.Growth.{after_entry}
 use Rattle.heap_model.specs.graph.Reach.{IsReach}
 use Rattle.heap_model.specs.graph.Sizes.{fragments_of_all, spine_words_of_all}

@@ -1,5 +1,5 @@
 -- What the reply of a press tells.
-use Rattle.std.proofs.Common.{◌≡◌, ℕ, ◌<◌, true, List, inr, Result, Ok, Err, sym, ap, ◌∙◌, subst}
+use Rattle.std.proofs.Common.{◌≡◌, ℕ, ◌<◌, true, List, inr, Result, Ok, Err, sym, subst}
 use Rattle.std.specs.Prelude.{OnOk, IfOk}
 use Rattle.heap_model.specs.declared.command.Command.{Command}
 use Rattle.heap_model.specs.declared.command.Command.TheVariants.{Collect}

@@ -1,7 +1,6 @@
 -- What a refusal behind a collect tells on a heap with one seat.
 use Rattle.std.proofs.Common.{◌≡◌, ℕ, ◌+◌, ◌*◌, ◌<◌, ◌≤◌, true, List, [], ◌∷◌, ◌++◌, inl, inr, refl, sym, ap, ◌∙◌, subst, append_assoc, arith}
 use Rattle.std.proofs.lemmas.Bool.{eq-eqb}
-use Rattle.heap_model.specs.Board.{board_fragments}
 use Rattle.heap_model.specs.Limits.{group_fragments}
 use Rattle.heap_model.specs.Needs.{made_by, words_by}
 use Rattle.heap_model.specs.declared.command.Command.{Command}
@@ -16,22 +15,22 @@ use Rattle.heap_model.specs.declared.account.effect.Effect.{Effect}
 use Rattle.heap_model.specs.account.Account.{IsLegal, KeepsSpace}
 use Rattle.heap_model.specs.account.Cycles.{graph_of}
 use Rattle.heap_model.specs.account.Effects.{effect_of}
-use Rattle.heap_model.specs.account.Refusals.{FindsSpace, FindsSpine, ShowsSpace, ShowsSpine}
-use Rattle.heap_model.specs.account.Space.{total, taken_of, spent_of, fragments_unborn}
+use Rattle.heap_model.specs.account.Refusals.{FindsSpace, FindsSpine}
+use Rattle.heap_model.specs.account.Space.{total}
 use Rattle.heap_model.specs.account.Windows.{is_reply_to, up_to_reply, since_reply}
 use Rattle.heap_model.specs.graph.Graph.{Graph}
 use Rattle.heap_model.specs.graph.Reach.{IsReach}
 use Rattle.heap_model.specs.graph.Sizes.{fragments_of_all, spine_words_of_all}
 use Rattle.heap_model.proofs.Histories.{total-more}
 use Rattle.heap_model.proofs.account_lemmas.Windows.{up_to_last-yes, after_last-yes}
-use Rattle.press_alloc.specs.Calls.{MayCall, AddsCall, IsNoReply}
+use Rattle.press_alloc.specs.Calls.{AddsCall, IsNoReply}
 use Rattle.press_alloc.specs.Presses.{IsAllocation, RefusesSpace, CallsAgain, IsPressed}
 use Rattle.press_alloc.specs.Refusals.{ExceedsFragments, ExceedsWords, HasNoFragments, HasNoWords, HoldsCycle, HasCollected}
 use Rattle.press_alloc.proofs.Bounds.{fragments_left, words_left}
 use Rattle.press_alloc.proofs.Calling.{graph_after_refusal, graph_after_collect}
-use Rattle.press_alloc.proofs.Collected.{begin_of, cycle_in_collect}
+use Rattle.press_alloc.proofs.Collected.{cycle_in_collect}
 use Rattle.press_alloc.proofs.Fronts.{front_is_legal, entry_keeps_rules}
-use Rattle.press_alloc.proofs.Seats.{TellsAll, one_seat_tells_all}
+use Rattle.press_alloc.proofs.Seats.{one_seat_tells_all}
 use Rattle.press_alloc.proofs.Sections.{total-append}
 use Rattle.press_alloc.proofs.Silence.{adds_nothing, none_is_born, none_is_granted}
 
