@@ -1,0 +1,185 @@
+-- What several seats have run is joined, and comes to whole runs.
+use Rattle.std.proofs.Common.{◌≡◌, ℕ, zero, suc, ◌+◌, ◌<◌, ◌≤◌, List, [], ◌∷◌, ◌++◌, length, map, get_or, set, refl, sym, ap, ◌∙◌, subst, append-nil, add-zero, zero-add, arith}
+use Rattle.std.specs.Prelude.{All, Contains, IfOk, IsPermutation, Ok, Option, Result, Some, slice_get, slice_index, sum_by}
+use Rattle.std.specs.List.{range_with_len, AllPairs}
+use Rattle.std.specs.List.Sorted.{IsNonDecreasingBy, IsStrictlyIncreasing}
+use Rattle.std.proofs.lemmas.List.{length-append, length-map, map-append, get_or-map}
+use Rattle.std.proofs.lemmas.List.Elements.{All-weaker, All-append, All-nil, All-get_or, Contains-append_left, Contains-push}
+use Rattle.std.proofs.lemmas.List.FromFn.{length-range_with_len, get_or-range_with_len}
+use Rattle.std.proofs.lemmas.List.Sorted.{All-permutation}
+use Rattle.heap_model.specs.declared.fault.Memory.{Memory}
+use Rattle.crossbeam_queue.specs.declared.array_queue.Doing.{Doing}
+use Rattle.crossbeam_queue.specs.declared.array_queue.Slotted.{Slotted}
+use Rattle.script_crew.specs.declared.crew.NotedCrew.{NotedCrew}
+use Rattle.script_crew.specs.declared.job.Job.{Job}
+use Rattle.script_crew.specs.declared.job.JobRun.{JobRun}
+use Rattle.script_crew.specs.declared.noted_seat.NotedSeat.{NotedSeat}
+use Rattle.script_crew.specs.declared.place_rule.Tally.{Tally}
+use Rattle.script_crew.specs.declared.worker.Worked.{Worked}
+use Rattle.script_crew.specs.declared.worker.Worker.{Worker}
+use Rattle.script_crew.specs.Places.{tally}
+use Rattle.script_crew.specs.Runs.{job_numbers, run_numbers, seat_numbers, EndsBefore, IsRunOn, IsRunAmong, AreWhole}
+use Rattle.script_crew.specs.Working.{places_of, numbers_at, GoesOn, HasRun, HaveRun, HasWorked, HaveWorked}
+use Rattle.script_crew.proofs.Running.{ends_within, run_stays}
+use Rattle.script_crew.proofs.SameLists.{in_order, range-push}
+use Rattle.script_crew.proofs.Turns.{AllPairs-append, apart-from_in_turn}
+
+-- where seats are numbered by their positions, the seat at a position has its number
+number_is_position : (seats : List NotedSeat) (n : ℕ) → seat_numbers seats ≡ range_with_len 0 n → (k : ℕ) (seat : NotedSeat) → k < length seats → get_or seats k seat ≡ seat → (seat.number ≡ k) × (k < n)
+number_is_position seats n numbered k seat few here =
+    let number : NotedSeat → ℕ = λ one. one.number in
+    let below : k < n = omega (arith, few, ap (λ xs. length xs) numbered, length-map seats number, length-range_with_len 0 n) in (
+      ap number (sym here) ∙ (sym (get_or-map number seats k seat 0 few) ∙ (ap (λ xs. get_or xs k 0) numbered ∙ (get_or-range_with_len 0 n k 0 below ∙ zero-add k))),
+      below,
+    )
+
+-- and the seat of the worker at a position has that number
+pub worker_number : (workers : List Worker) (seats : List NotedSeat) (n : ℕ) → map (λ worker. worker.seat) workers ≡ seats → seat_numbers seats ≡ range_with_len 0 n
+    → (k : ℕ) (worker : Worker) → k < length workers → get_or workers k worker ≡ worker → worker.seat.number ≡ k
+worker_number workers seats n seats_are numbered k worker few here =
+    let seat : Worker → NotedSeat = λ one. one.seat in
+    (number_is_position seats n numbered k worker.seat (omega (arith, few, ap (λ xs. length xs) seats_are, length-map workers seat))
+    (ap (λ xs. get_or xs k worker.seat) (sym seats_are) ∙ (get_or-map seat workers k worker worker.seat few ∙ ap seat here))).0
+
+seat_is_below : (jobs : List Job) (seats : List NotedSeat) (n : ℕ) → seat_numbers seats ≡ range_with_len 0 n → (run : JobRun) → IsRunAmong jobs seats run → run.seat < n
+seat_is_below jobs seats n numbered run ran =
+    let at = number_is_position seats n numbered ran.of_seats.0 ran.seat ran.of_seats.1 ran.of_seats.2 in
+    omega (arith, ran.on_seat.of_job.seat_is, at.0, at.1)
+
+among_more : (jobs : List Job) (seats : List NotedSeat) (seat : NotedSeat) (run : JobRun) → IsRunAmong jobs seats run → IsRunAmong jobs (seats ++ seat ∷ []) run
+among_more jobs seats seat run ran = record {
+  seat = ran.seat;
+  of_seats = Contains-append_left seats (seat ∷ []) ran.seat ran.of_seats;
+  on_seat = ran.on_seat;
+}
+
+-- no worker was joined yet
+pub none_joined : (jobs : List Job) (one : Tally) (crew : NotedCrew) → one.popped ≡ [] → crew.seats.items ≡ [] → crew.runs.items ≡ [] → HaveRun jobs one 0 one crew
+none_joined jobs one crew none seats_are runs_are = record {
+  places = [];
+  popped = λ i. tally (sym (add-zero one.shares) i) one.pushed (none i) one.known;
+  numbers = ap run_numbers runs_are;
+  count = ap (λ xs. length xs) seats_are;
+  numbered = ap seat_numbers seats_are;
+  each = subst (All (IsRunAmong jobs crew.seats.items)) (sym runs_are) (All-nil (IsRunAmong jobs crew.seats.items));
+  in_turn = subst (AllPairs EndsBefore) (sym runs_are) (λ i j d less few. absurd (omega (arith, few)));
+}
+
+-- one worker more was joined
+pub one_more_joined : (jobs : List Job) (first old new both : Tally) (n : ℕ) (crew later : NotedCrew) (before seat : NotedSeat) (runs : List JobRun) → HaveRun jobs first n old crew
+    → before.number ≡ n → HasRun jobs (tally 1 [] [] (places_of jobs)) new before seat runs → both ≡ tally (old.shares + new.shares) (old.pushed ++ new.pushed) (old.popped ++ new.popped) old.known
+    → later.seats.items ≡ crew.seats.items ++ seat ∷ [] → later.runs.items ≡ crew.runs.items ++ runs → HaveRun jobs first (n + 1) both later
+one_more_joined jobs first old new both n crew later before seat runs had number_is ran both_is seats_are runs_are = record {
+  places = had.places ++ ran.places;
+  popped = both_is ∙ (λ i. tally (shares i) (pushed i) ((had.popped i).popped ++ (ran.popped i).popped) (had.popped i).known);
+  numbers = ap run_numbers runs_are ∙ (map-append (λ run. run.job) crew.runs.items runs
+      ∙ ((λ i. had.numbers i ++ ran.numbers i) ∙ sym (map-append (λ place. slice_index (job_numbers jobs) place) had.places ran.places)));
+  count = omega (arith, ap (λ xs. length xs) seats_are, length-append crew.seats.items (seat ∷ []), had.count);
+  numbered = ap seat_numbers seats_are ∙ (map-append (λ one. one.number) crew.seats.items (seat ∷ []) ∙ ((λ i. had.numbered i ++ number i ∷ []) ∙ range-push n));
+  each = subst (λ seats. All (IsRunAmong jobs seats) later.runs.items) (sym seats_are) (subst (All (IsRunAmong jobs (crew.seats.items ++ seat ∷ []))) (sym runs_are)
+      (All-append (IsRunAmong jobs (crew.seats.items ++ seat ∷ [])) crew.runs.items runs earlier own));
+  in_turn = subst (AllPairs EndsBefore) (sym runs_are) (AllPairs-append EndsBefore crew.runs.items runs had.in_turn ran.in_turn across);
+}
+  where
+    number : seat.number ≡ n
+    number = ran.goes_on.number_stays ∙ number_is
+
+    shares : old.shares + new.shares ≡ first.shares + (n + 1)
+    shares = omega (arith, ap (λ (one : Tally). one.shares) had.popped, ap (λ (one : Tally). one.shares) ran.popped)
+
+    pushed : old.pushed ++ new.pushed ≡ first.pushed
+    pushed = (λ i. (had.popped i).pushed ++ (ran.popped i).pushed) ∙ append-nil first.pushed
+
+    earlier : All (IsRunAmong jobs (crew.seats.items ++ seat ∷ [])) crew.runs.items
+    earlier = All-weaker (IsRunAmong jobs crew.seats.items) (IsRunAmong jobs (crew.seats.items ++ seat ∷ [])) (among_more jobs crew.seats.items seat) crew.runs.items had.each
+
+    own : All (IsRunAmong jobs (crew.seats.items ++ seat ∷ [])) runs
+    own = All-weaker (IsRunOn jobs seat) (IsRunAmong jobs (crew.seats.items ++ seat ∷ [])) (λ run on. record { seat = seat; of_seats = Contains-push crew.seats.items seat; on_seat = on }) runs ran.on_seat
+
+    across : All (λ one. All (EndsBefore one) runs) crew.runs.items
+    across k d few j e short same =
+        let below = seat_is_below jobs crew.seats.items n had.numbered (get_or crew.runs.items k d) (All-get_or (IsRunAmong jobs crew.seats.items) crew.runs.items k d few had.each) in
+        let on = All-get_or (IsRunOn jobs seat) runs j e short ran.on_seat in
+        absurd (omega (arith, below, same, on.of_job.seat_is, number))
+
+-- the first seat has gone on
+first_goes_on : (jobs : List Job) (seats : List NotedSeat) (old new : NotedSeat) (run : JobRun) → 0 < length seats → old ≡ get_or seats 0 old → GoesOn old new → IsRunAmong jobs seats run → IsRunAmong jobs (set seats 0 new) run
+first_goes_on jobs [] old new run some is on ran = absurd (omega (arith, some))
+first_goes_on jobs (x ∷ xs) old new run some is on ran = at ran.of_seats.0 ran.seat ran.of_seats.1 ran.of_seats.2 ran.on_seat
+  where
+    at : (k : ℕ) (seat : NotedSeat) → k < length (x ∷ xs) → get_or (x ∷ xs) k seat ≡ seat → IsRunOn jobs seat run → IsRunAmong jobs (new ∷ xs) run
+    at zero seat few here ran = record { seat = new; of_seats = (0, omega arith, refl); on_seat = run_stays jobs old new on run (subst (λ s. IsRunOn jobs s run) (sym (is ∙ here)) ran) }
+    at (suc k) seat few here ran = record { seat = seat; of_seats = (suc k, few, here); on_seat = ran }
+
+-- a run of the first seat ends within that seat's log
+first_ends : (jobs : List Job) (seats : List NotedSeat) (n : ℕ) (old : NotedSeat) (run : JobRun) → seat_numbers seats ≡ range_with_len 0 n → 0 < length seats → old ≡ get_or seats 0 old
+    → IsRunAmong jobs seats run → run.seat ≡ old.number → run.to ≤ length old.log.items
+first_ends jobs [] n old run numbered some is ran same = absurd (omega (arith, some))
+first_ends jobs (x ∷ xs) n old run numbered some is ran same = at ran.of_seats.0 ran.seat ran.of_seats.1 ran.of_seats.2 ran.on_seat
+  where
+    at : (k : ℕ) (seat : NotedSeat) → k < length (x ∷ xs) → get_or (x ∷ xs) k seat ≡ seat → IsRunOn jobs seat run → run.to ≤ length old.log.items
+    at zero seat few here ran = subst (λ s. run.to ≤ length s.log.items) (sym (is ∙ here)) (ends_within jobs seat run ran)
+    at (suc k) seat few here ran =
+        let own = number_is_position (x ∷ xs) n numbered (suc k) seat few here in
+        let first = number_is_position (x ∷ xs) n numbered 0 old (omega arith) (sym is) in
+        absurd (omega (arith, ran.of_job.seat_is, own.0, first.0, same))
+
+on_first : (jobs : List Job) (seats : List NotedSeat) (seat : NotedSeat) (run : JobRun) → 0 < length seats → IsRunOn jobs seat run → IsRunAmong jobs (set seats 0 seat) run
+on_first jobs [] seat run some one = absurd (omega (arith, some))
+on_first jobs (x ∷ xs) seat run some one = record { seat = seat; of_seats = (0, omega arith, refl); on_seat = one }
+
+-- where the first seat is replaced by one of its number, the numbers stay
+pub numbers_stay : (seats : List NotedSeat) (old new : NotedSeat) → 0 < length seats → old ≡ get_or seats 0 old → new.number ≡ old.number → seat_numbers (set seats 0 new) ≡ seat_numbers seats
+numbers_stay [] old new some is same = refl
+numbers_stay (x ∷ xs) old new some is same = λ i. (same ∙ ap (λ (seat : NotedSeat). seat.number) is) i ∷ seat_numbers xs
+
+-- once the queue was empty for the pass that has every share, the runs are whole
+pub runs_are_whole : (jobs : List Job) (first old new : Tally) (n : ℕ) (crew : NotedCrew) (before after : NotedSeat) (rest sorted : List JobRun)
+    → first.pushed ≡ places_of jobs → HaveRun jobs first n old crew → 0 < length crew.seats.items → before ≡ get_or crew.seats.items 0 before → HasRun jobs old new before after rest
+    → ((measure : ℕ → ℕ) → sum_by measure new.popped ≡ sum_by measure new.pushed) → IsPermutation (crew.runs.items ++ rest) sorted → IsNonDecreasingBy (λ run. run.job) sorted
+    → IsStrictlyIncreasing (job_numbers jobs) → AreWhole jobs (set crew.seats.items 0 after) sorted
+runs_are_whole jobs first old new n crew before after rest sorted pushed had some is ran popped moved up rising = record {
+  once = in_order jobs (crew.runs.items ++ rest) sorted (had.places ++ ran.places) numbers places moved up rising;
+  each = All-permutation (IsRunAmong jobs (set crew.seats.items 0 after)) (crew.runs.items ++ rest) sorted moved
+      (All-append (IsRunAmong jobs (set crew.seats.items 0 after)) crew.runs.items rest earlier later);
+  apart = apart-from_in_turn (crew.runs.items ++ rest) sorted (AllPairs-append EndsBefore crew.runs.items rest had.in_turn ran.in_turn across) moved;
+}
+  where
+    numbers : run_numbers (crew.runs.items ++ rest) ≡ numbers_at jobs (had.places ++ ran.places)
+    numbers = map-append (λ run. run.job) crew.runs.items rest ∙ ((λ i. had.numbers i ++ ran.numbers i) ∙ sym (map-append (λ place. slice_index (job_numbers jobs) place) had.places ran.places))
+
+    popped_is : new.popped ≡ had.places ++ ran.places
+    popped_is = (λ i. (ran.popped i).popped) ∙ (λ i. (had.popped i).popped ++ ran.places)
+
+    pushed_is : new.pushed ≡ places_of jobs
+    pushed_is = (λ i. (ran.popped i).pushed) ∙ ((λ i. (had.popped i).pushed) ∙ pushed)
+
+    places : (measure : ℕ → ℕ) → sum_by measure (had.places ++ ran.places) ≡ sum_by measure (places_of jobs)
+    places measure = ap (sum_by measure) (sym popped_is) ∙ (popped measure ∙ ap (sum_by measure) pushed_is)
+
+    earlier : All (IsRunAmong jobs (set crew.seats.items 0 after)) crew.runs.items
+    earlier = All-weaker (IsRunAmong jobs crew.seats.items) (IsRunAmong jobs (set crew.seats.items 0 after)) (λ run one. first_goes_on jobs crew.seats.items before after run some is ran.goes_on one) crew.runs.items had.each
+
+    later : All (IsRunAmong jobs (set crew.seats.items 0 after)) rest
+    later = All-weaker (IsRunOn jobs after) (IsRunAmong jobs (set crew.seats.items 0 after)) (λ run one. on_first jobs crew.seats.items after run some one) rest ran.on_seat
+
+    across : All (λ one. All (EndsBefore one) rest) crew.runs.items
+    across k d few j e short same =
+        let on = All-get_or (IsRunOn jobs after) rest j e short ran.on_seat in
+        let among = All-get_or (IsRunAmong jobs crew.seats.items) crew.runs.items k d few had.each in
+        let begins = ran.begin j e short in
+        let ends = first_ends jobs crew.seats.items n before (get_or crew.runs.items k d) had.numbered some is among (same ∙ (on.of_job.seat_is ∙ ran.goes_on.number_stays)) in
+        omega (arith, ends, begins)
+
+-- what stands behind so many others
+slice_get_middle : {X : Type 0} (xs : List X) (x : X) (ys : List X) → slice_get (xs ++ x ∷ ys) (length xs) ≡ Some x
+slice_get_middle [] x ys = refl
+slice_get_middle (z ∷ zs) x ys = slice_get_middle zs x ys
+
+module _ {Q A : Type 0} where
+  -- the worker that comes next has worked on the seat of its position
+  pub next_has_worked : (queue : Slotted (Option ℕ) (Doing ℕ Tally) Q A) (jobs : List Job) (ends before behind : List (Result Worked Memory)) (end : Result Worked Memory) (worked : Worked)
+      → HaveWorked queue jobs ends → before ++ end ∷ behind ≡ ends → end ≡ Ok worked → HasWorked queue jobs (length before) worked
+  next_has_worked queue jobs ends before behind end worked have all is =
+      subst (λ (one : Result Worked Memory). IfOk one (HasWorked queue jobs (length before))) is
+      (have (length before) end (ap (λ xs. slice_get xs (length before)) (sym all) ∙ slice_get_middle before end behind))
