@@ -35,6 +35,12 @@ popped_after : (measure : ℕ → ℕ) (all : List Tally) (port : ℕ) (old new 
     → popped_by_all measure (set all port new) + sum_by measure old.popped ≡ popped_by_all measure all + sum_by measure new.popped
 popped_after measure all port old new at = sum_by-set_at (λ one. sum_by measure one.popped) all port old new at
 
+-- where one view's change moves as much as the queue's, all is balanced behind it
+balanced_after : (items later : List ℕ) (all : List Tally) (port : ℕ) (old new : Tally) → get_elem? all port ≡ some old → KeepsPlaces items all
+    → ((measure : ℕ → ℕ) → sum_by measure new.pushed + sum_by measure old.popped + sum_by measure items ≡ sum_by measure old.pushed + sum_by measure new.popped + sum_by measure later)
+    → (measure : ℕ → ℕ) → pushed_by_all measure (set all port new) ≡ popped_by_all measure (set all port new) + sum_by measure later
+balanced_after items later all port old new at kept moved measure = omega (arith, pushed_after measure all port old new at, popped_after measure all port old new at, kept.balanced measure, moved measure)
+
 -- a view that knows what another one knew is sound where as much was pushed in all
 stays_sound : (all later : List Tally) → ((measure : ℕ → ℕ) → pushed_by_all measure later ≡ pushed_by_all measure all)
     → (old new : Tally) → new.known ≡ old.known → (new.shares ≡ 0 → (new.pushed ≡ []) × (new.popped ≡ [])) → (0 < new.shares → 0 < old.shares) → IsSound all old → IsSound later new
@@ -73,14 +79,7 @@ keeps-push capacity port one place every items all room kept at =
       new,
       record {
         shares = omega (arith, shares_after all port one new at, kept.shares);
-        balanced = λ measure. omega (
-          arith,
-          pushed_after measure all port one new at,
-          popped_after measure all port one new at,
-          kept.balanced measure,
-          sum_by_push measure one.pushed place,
-          sum_by_push measure items place,
-        );
+        balanced = balanced_after items (items ++ place ∷ []) all port one new at kept (λ measure. omega (arith, sum_by_push measure one.pushed place, sum_by_push measure items place));
         sound = each-set (IsSound later) all port new
             (record {
               idle = not_idle new share;
@@ -108,14 +107,7 @@ keeps-pop port one share place items all kept at =
       new,
       record {
         shares = omega (arith, shares_after all port one new at, kept.shares);
-        balanced = λ measure. omega (
-          arith,
-          pushed_after measure all port one new at,
-          popped_after measure all port one new at,
-          kept.balanced measure,
-          sum_by-cons measure place items,
-          sum_by_push measure one.popped place,
-        );
+        balanced = balanced_after (place ∷ items) items all port one new at kept (λ measure. omega (arith, sum_by-cons measure place items, sum_by_push measure one.popped place));
         sound = each-set (IsSound later) all port new (stays_sound all later same one new refl (not_idle new share) (λ _. share) (kept.sound port one at))
             (λ other two apart there. itself_sound all later same two (kept.sound other two there));
       },

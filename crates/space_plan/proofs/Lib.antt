@@ -1,2 +1,3 @@
 pub mod cycle_turns
 pub mod plan_lemmas
+pub mod text_lemmas

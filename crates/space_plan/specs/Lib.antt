@@ -1,2 +1,3 @@
 pub mod cycle_turns
 pub mod plan
+pub mod Text

@@ -6,7 +6,9 @@ mod planning;
 mod report;
 #[cfg(test)]
 mod tests;
+mod text;
 
 pub use law::law_cycle_turns;
 pub use planning::plan;
 pub use report::{CyclePlan, PlanReport};
+pub use text::render_plan;

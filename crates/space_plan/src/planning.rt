@@ -73,10 +73,8 @@ pub fn plan(alloc: Global, history: &History) -> Result<PlanReport, CheckFault>
     requires spellable { IsSpellable history.now }
     requires play { history.now.form ≡ Form.Play }
     ensures legal { IfOk result (λ _. IsLegalHistory history.now) }
-    ensures first { (line : ℕ) → result ≡ Err (CheckFault.NotLegal line) →
-        IsFirstIllegal history.now line }
     ensures not_legal { (line : ℕ) → result ≡ Err (CheckFault.NotLegal line) →
-        ¬ IsLegalHistory history.now }
+        IsFirstIllegal history.now line × ¬ IsLegalHistory history.now }
     ensures cycles { IfOk result (λ report.
         AllZip (IsCyclePlan history.now.heap) (ends_of history.now.entries) report.cycles.items) }
     ensures reach { IfOk result (λ report.

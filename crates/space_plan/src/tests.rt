@@ -1,6 +1,6 @@
 //! Plans of worked histories.
 
-use crate::{CyclePlan, PlanReport, plan};
+use crate::{CyclePlan, PlanReport, plan, render_plan};
 use reply_text::read_history;
 use script_text::Form;
 use std::alloc::Global;
@@ -12,13 +12,19 @@ const EMPTY: &[u8] = b"history 1 play\nheap 1 0 1\nspace used 11 of 16 spine 0 o
 
 /// A play that refuses a record, while its seat has a reserve.
 const RESERVE: &[u8] = b"history 1 play\nheap 1 0 1\n\
-    0 takes 5\n0 new 1 2 = 0.0\n0 new 2 47 = full need 16 found 4\n0 nil 1 = ok\n\
-    c phase 1\n0 answers 1\nc phase 2\n0 answers 2\nc phase 3\n0 answers 3\nc phase 4\n0 answers 4\n\
-    c phase 5\n0 answers 5\nc frees 1\nc phase 6\n0 answers 6\nc ends 0 kept 15\n0 collect = cycle 0\n\
+    0 takes 5\n0 new 1 2 = 0.0\n0 new 2 47 = full need 16 found 4\n\
+    0 nil 1 = ok\nc phase 1\n0 answers 1\nc phase 2\n0 answers 2\n\
+    c phase 3\n0 answers 3\nc phase 4\n0 answers 4\nc phase 5\n0 answers 5\n\
+    c frees 1\nc phase 6\n0 answers 6\nc ends 0 kept 15\n0 collect = cycle 0\n\
     space used 15 of 16 spine 0 of 0\n\
     0 gives back 4\n0 leave = ok\n\
     c phase 8\nc phase 9\nc phase 10\nc phase 11\nc phase 12\nc frees 11\nc phase 13\nc ends 1 kept 0\n\
     end used 0\n";
+
+/// Its plan as a text.
+const RESERVE_PLAN: &[u8] = b"plan 1\nheap 1 0 1\n\
+    cycle 0 reach 11 since 0 bound 15 used 15 kept 15\ncycle 1 reach 0 since 0 bound 0 used 0 kept 0\n\
+    most reach 11 takes 5 need 16\ngroups 4 turns 325\nfull 1\n";
 
 /// A play of two seats, of which one has taken fragments for a call when the cycle begins.
 const IN_FLIGHT: &[u8] = b"history 1 play\nheap 2 0 2\n\
@@ -82,6 +88,16 @@ fn plans_a_play_that_refuses(rt: HostRuntime) -> Result<(), Fail> {
         },
     ];
     assert_eq!(rt; report.cycles.as_slice(), cycles.as_slice());
+    Ok(())
+}
+
+#[test]
+fn tells_a_plan(rt: HostRuntime) -> Result<(), Fail> {
+    let alloc = rt.alloc();
+    let history = read_history(alloc, RESERVE)?;
+    let report = plan_of(alloc, RESERVE)?;
+    let text = render_plan(alloc, &history.heap, &report)?;
+    assert_eq!(rt; text.as_slice(), RESERVE_PLAN);
     Ok(())
 }
 

@@ -131,45 +131,45 @@ module _ (heap : Heap) (state : State) (book : Book) (rule : Rule heap state boo
         absurd (omega (arith, some, told_is_few, tells, no_words_behind_first (suc k) (spine_words_of (node_at (graph_of heap book.history) book.made i)) (omega arith)))
 
     module _ (number : ℕ) (bears : book.owner f ≡ Borne number) where
-      abbrev seat : Seat
-      seat = seat_at state number
+      abbrev maker : Seat
+      maker = seat_at state number
 
-      abbrev k : ℕ
-      k = position_of f seat.body
+      abbrev position : ℕ
+      position = position_of f maker.body
 
       here : number < heap.seats
       here = (borne_is_in_seat_body heap state book rule number f bears).0
 
-      by_command : (command : Command) → seat.command ≡ command → MakesObject command → IsCommand command → length seat.body ≡ need_of command → k < length seat.body → get_or seat.body k 0 ≡ f
-          → first_word ≡ newborn_word command (next_name number seat) seat.spine seat.body k 0 → fragments_told (told_words heap state.words f) ≤ followers f
+      by_command : (command : Command) → maker.command ≡ command → MakesObject command → IsCommand command → length maker.body ≡ need_of command → position < length maker.body → get_or maker.body position 0 ≡ f
+          → first_word ≡ newborn_word command (next_name number maker) maker.spine maker.body position 0 → fragments_told (told_words heap state.words f) ≤ followers f
       by_command (commands.New d fields) is made range whole within stands stored =
-          let small : (i : ℕ) → i < length seat.body → get_or seat.body i 0 < 2 ^ 30 = λ i less.
-          let inside : get_or seat.body i 0 < 16 * heap.groups = (seat_fits rule number here).hand.body_within i 0 less in
+          let small : (i : ℕ) → i < length maker.body → get_or maker.body i 0 < 2 ^ 30 = λ i less.
+          let inside : get_or maker.body i 0 < 16 * heap.groups = (seat_fits rule number here).hand.body_within i 0 less in
           omega (arith, inside, rule.machine.limits.groups_fit)
           in
-          let none : spine_words_in first_word ≡ 0 = ap spine_words_in stored ∙ newborn_tells_no_spine seat.body small (next_name number seat) fields k (omega (arith, range.1.1)) in
+          let none : spine_words_in first_word ≡ 0 = ap spine_words_in stored ∙ newborn_tells_no_spine maker.body small (next_name number maker) fields position (omega (arith, range.1.1)) in
           absurd (omega (arith, some, told_is_few, none))
-      by_command (commands.Array d cells) is made range whole within stands stored = at_row k refl
+      by_command (commands.Array d cells) is made range whole within stands stored = at_row position refl
         where
-          at_row : (n : ℕ) → k ≡ n → fragments_told (told_words heap state.words f) ≤ followers f
+          at_row : (n : ℕ) → position ≡ n → fragments_told (told_words heap state.words f) ≤ followers f
           at_row (suc n) later =
-              let word : first_word ≡ 0 = stored ∙ rw later (behind_first_is_zero (next_name number seat) cells seat.spine n 0) in
+              let word : first_word ≡ 0 = stored ∙ rw later (behind_first_is_zero (next_name number maker) cells maker.spine n 0) in
               let none : spine_words_in first_word ≡ 0 = ap spine_words_in word in
               absurd (omega (arith, some, told_is_few, none))
           at_row zero first =
               let meta : first_word ≡ array_meta cells = stored ∙ rw first refl in
               let many : spine_words_in first_word ≡ array_words cells = ap spine_words_in meta ∙ spine_words_in-meta cells (omega (arith, range.1.1)) in
-              let its : f ≡ fragment_at seat.body 0 = sym stands ∙ ap (λ j. get_or seat.body j 0) first in
+              let its : f ≡ fragment_at maker.body 0 = sym stands ∙ ap (λ j. get_or maker.body j 0) first in
               omega (arith, told_is_few, many, whole, fragments_told_within (told_words heap state.words f), body_has_followers number f here (omega (arith, within)) its)
       by_command _ is made range whole within stands stored = absurd made
 
       borne_counts : fragments_told (told_words heap state.words f) ≤ followers f
       borne_counts =
-          let has = bearing_has_stored_all heap state book rule number f bears seat.point (seat_fits rule number here).at_point in
-          let position = element_stands_at_position f seat.body (fragment_is_in_body heap state book rule number f bears) in
-          by_command seat.command refl has.0.makes.an_object has.0.makes.in_range has.0.whole position.0 position.1
-          (subst (λ x. at heap state.words (Word x 0) ≡ newborn_word_of number seat k 0) position.1
-          (all_words_are_stored heap state.words seat.body (newborn_word_of number seat) seat.stored has.1 (rule.seats_stand number here).own.stored k 0 position.0 (omega arith)))
+          let has = bearing_has_stored_all heap state book rule number f bears maker.point (seat_fits rule number here).at_point in
+          let element = element_stands_at_position f maker.body (fragment_is_in_body heap state book rule number f bears) in
+          by_command maker.command refl has.0.makes.an_object has.0.makes.in_range has.0.whole element.0 element.1
+          (subst (λ x. at heap state.words (Word x 0) ≡ newborn_word_of number maker position 0) element.1
+          (all_words_are_stored heap state.words maker.body (newborn_word_of number maker) maker.stored has.1 (rule.seats_stand number here).own.stored position 0 element.0 (omega arith)))
 
     counts_by : f < 16 * heap.groups → (o : Owner) → book.owner f ≡ o → fragments_told (told_words heap state.words f) ≤ followers f
     counts_by below (Kept i k) is = kept_counts i k is

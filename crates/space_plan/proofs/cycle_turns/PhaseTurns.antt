@@ -38,6 +38,13 @@ work_begins heap words phase looked =
     (16 * heap.groups * (heap.groups + 12) + heap.groups + 1) (81 * heap.groups) (sweep_most * heap.groups) heap.groups 0
     (λ marks. marking_begins heap.groups (scanned_count heap words) (scanned_words heap words)) (λ copies. omega arith) (λ sweeps. omega arith) (λ clears. omega arith) (λ nothing. omega arith)
 
+-- one look more leaves fewer, and the last one the phase's work
+fewer_looks : (seats looked work : ℕ) → looked < seats → seats - (looked + 1) + work < seats - looked + work
+fewer_looks seats looked work below = omega (arith, below)
+
+last_look : (seats looked work first : ℕ) → looked < seats → first ≤ work → first < seats - looked + work
+last_look seats looked work first below few = omega (arith, few, below)
+
 module _ (heap : Heap) (state : State) (looking : state.collector.stage ≡ stages.Looking) (below : state.collector.looked < heap.seats) where
   abbrev collector : Collector
   collector = state.collector
@@ -49,16 +56,10 @@ module _ (heap : Heap) (state : State) (looking : state.collector.stage ≡ stag
   counted_leaves : LeavesFewer (after_counted_look heap collector)
   counted_leaves = elim (leb_tells (suc (collector.looked + 1)) heap.seats) as (λ _. LeavesFewer (after_counted_look heap collector)) [
     | inl more ↦ rw more.0 (subst (λ stage. cycle_left_at heap state.words collector.phase (collector.looked + 1) stage < cycle_left heap state) (sym looking)
-        (fewer_left_at_stage heap state stages.Looking looking state.words (collector.looked + 1) stages.Looking (on (phase_work heap.groups collector.phase))))
+        (fewer_left_at_stage heap state stages.Looking looking state.words (collector.looked + 1) stages.Looking (fewer_looks heap.seats collector.looked (phase_work heap.groups collector.phase) below)))
     | inr all ↦ rw all.0 (fewer_left_at_stage heap state stages.Looking looking state.words heap.seats (first_work collector.phase)
-        (begun (phase_work heap.groups collector.phase) _ (work_begins heap state.words collector.phase heap.seats)))
+        (last_look heap.seats collector.looked (phase_work heap.groups collector.phase) _ below (work_begins heap state.words collector.phase heap.seats)))
   ]
-    where
-      on : (work : ℕ) → heap.seats - (collector.looked + 1) + work < heap.seats - collector.looked + work
-      on work = omega (arith, below)
-
-      begun : (work first : ℕ) → first ≤ work → first < heap.seats - collector.looked + work
-      begun work first few = omega (arith, few, below)
 
   look_found : (b : Bool) (word : ℕ) → (if b then Stepped else Waits collector.looked word collector.phase) ≡ Stepped → LeavesFewer (if b then after_counted_look heap collector else collector)
   look_found true word stepped = counted_leaves

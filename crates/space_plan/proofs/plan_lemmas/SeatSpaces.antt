@@ -52,6 +52,18 @@ SeatTells-own number history entry old new counts tells = record {
     spent : new.spent ≡ spent_of number (history ++ entry ∷ [])
     spent = omega (arith, counts.spent, tells.spent, own_more number (λ e. e.given) history entry own, own_more number (λ e. e.born) history entry own)
 
+-- so where it adds the entry's effect, and keeps the sums at the last reply by whether that is one
+pub SeatTells-counted : (number : ℕ) (history : List Entry) (entry : Entry) (old : SeatSpace) (taken_then spent_then : ℕ) (effect : Effect) → seat_of entry ≡ Some number → effect ≡ effect_of entry
+    → taken_then ≡ cond (is_reply_to number entry) (old.taken + effect.taken) old.taken_then → spent_then ≡ cond (is_reply_to number entry) (old.spent + effect.given + effect.born) old.spent_then
+    → SeatTells number old history → SeatTells number (record { taken = old.taken + effect.taken; spent = old.spent + effect.given + effect.born; taken_then = taken_then; spent_then = spent_then }) (history ++ entry ∷ [])
+SeatTells-counted number history entry old taken_then spent_then effect own exact taken_kept spent_kept tells = SeatTells-own number history entry old _ (record {
+  own = own;
+  taken = ap (λ (e : Effect). old.taken + e.taken) exact;
+  spent = ap (λ (e : Effect). old.spent + e.given + e.born) exact;
+  taken_then = taken_kept;
+  spent_then = spent_kept;
+}) tells
+
 -- an entry that isn't its own changes nothing
 pub SeatTells-other : (number : ℕ) (history : List Entry) (entry : Entry) (seat : SeatSpace) → (seat_of entry ≡ Some number → ⊥) → SeatTells number seat history → SeatTells number seat (history ++ entry ∷ [])
 SeatTells-other number history entry seat not_own tells =

@@ -7,6 +7,8 @@ use Rattle.heap_model.specs.account.Space.{taken_of, spent_of, fragments_unborn}
 use Rattle.heap_model.specs.account.Windows.{up_to_reply}
 use Rattle.space_plan.specs.declared.planning.seat_space.SeatSpace.{SeatSpace}
 use Rattle.space_plan.specs.declared.planning.seat_spaces.SeatSpaces.{SeatSpaces}
+use Rattle.space_plan.specs.declared.planning.seat_spaces.SpaceSums.{SpaceSums}
+use Rattle.space_plan.specs.plan.Cycles.{taken_since_replies}
 
 -- what stands for a seat that isn't there
 abbrev pub no_space : SeatSpace
@@ -49,3 +51,13 @@ SeatsTell heap seats history = (number : ℕ) → number < heap.seats → SeatTe
 -- the counts of each seat are small enough for so many entries
 abbrev pub SeatsFit : ℕ → SeatSpaces → Type 0
 SeatsFit entries seats = (number : ℕ) → SeatFits entries (space_at seats.spaces number)
+
+-- what the seats have together is what the history says of them
+pub record SumsTell (heap : Heap) (sums : SpaceSums) (history : List Entry) : Type 0 where
+  pub reserves : sums.reserves ≡ unborn_at_replies heap history
+  pub since : sums.since ≡ taken_since_replies heap history
+
+-- it is small enough for so many entries
+pub record SumsFit (entries : ℕ) (sums : SpaceSums) : Type 0 where
+  pub reserves : sums.reserves ≤ 2 ^ 36 * entries
+  pub since : sums.since ≤ 2 ^ 36 * entries

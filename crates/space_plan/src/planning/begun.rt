@@ -66,10 +66,11 @@ impl BegunCycle {
             most_reach ≤ 2 ^ 32 * (n + 1) → IfOk result (BegunFits n) }
     {
         let reach = reached_frags(graph)?;
+        let sums = ledger.seats.sums(ledger.heap.seats);
         Ok(BegunCycle {
             reach,
-            reserves: ledger.seats.reserves(ledger.heap.seats),
-            since: ledger.seats.taken_since_replies(ledger.heap.seats),
+            reserves: sums.reserves,
+            since: sums.since,
             most_reach: most_reach.max(reach),
         })
     }

@@ -12,9 +12,14 @@ pub struct SeatSpaces {
     spaces: [SeatSpace; 16],
 }
 
+/// The fragments that seats had together right after their last replies, and those that they took since.
+pub struct SpaceSums {
+    pub reserves: u64,
+    pub since: u64,
+}
+
 impl SeatSpaces {
-    ghost use Rattle.space_plan.specs.plan.Cycles.{taken_since_replies};
-    ghost use Rattle.space_plan.specs.plan.Seats.{SeatTells, SeatFits, SeatsTell, SeatsFit, space_at, unborn_at_replies};
+    ghost use Rattle.space_plan.specs.plan.Seats.{SeatTells, SeatFits, SeatsTell, SeatsFit, SumsTell, SumsFit, space_at};
 
     /// The seats before the first entry.
     pub fn opening() -> SeatSpaces
@@ -55,33 +60,21 @@ impl SeatSpaces {
         }
     }
 
-    /// The fragments that these seats, from the first on, had right after their last replies.
-    pub fn reserves(&self, seats: u8) -> u64
+    /// What these seats, from the first on, have together.
+    pub fn sums(&self, seats: u8) -> SpaceSums
         requires seats { seats ≤ 16 }
         requires few { SeatsFit (2 ^ 22) self.now }
         ensures tells { (heap : Heap) (history : List AnEntry) → seats ≡ heap.seats →
-            SeatsTell heap self.now history → result ≡ unborn_at_replies heap history }
-        ensures fits { (n : ℕ) → SeatsFit n self.now → result ≤ 2 ^ 36 * n }
+            SeatsTell heap self.now history → SumsTell heap result history }
+        ensures fits { (n : ℕ) → SeatsFit n self.now → SumsFit n result }
     {
-        let mut sum = 0;
+        let mut reserves = 0;
+        let mut since = 0;
         for seat in 0..seats {
-            sum += self.space(seat).reserve();
+            let space = self.space(seat);
+            reserves += space.reserve();
+            since += space.since();
         }
-        sum
-    }
-
-    /// What these seats, from the first on, took since their last replies.
-    pub fn taken_since_replies(&self, seats: u8) -> u64
-        requires seats { seats ≤ 16 }
-        requires few { SeatsFit (2 ^ 22) self.now }
-        ensures tells { (heap : Heap) (history : List AnEntry) → seats ≡ heap.seats →
-            SeatsTell heap self.now history → result ≡ taken_since_replies heap history }
-        ensures fits { (n : ℕ) → SeatsFit n self.now → result ≤ 2 ^ 36 * n }
-    {
-        let mut sum = 0;
-        for seat in 0..seats {
-            sum += self.space(seat).since();
-        }
-        sum
+        SpaceSums { reserves, since }
     }
 }

@@ -1,0 +1,3 @@
+-- The lines of a plan as they are written.
+pub mod Lines
+pub mod Whole
