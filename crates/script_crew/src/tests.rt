@@ -12,7 +12,9 @@ fn do_rise(jobs: &[Job]) -> bool
     ensures { IsTrue result → IsStrictlyIncreasing (job_numbers jobs.now) }
 {
     for k in 1..jobs.len() {
-        if jobs[k].number <= jobs[k - 1].number {
+        let number = jobs[k].number;
+        let before = jobs[k - 1].number;
+        if number <= before {
             return false;
         }
     }
