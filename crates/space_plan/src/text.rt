@@ -16,6 +16,14 @@ fn push_named(text: &mut Vec<u8>, word: &[u8], number: u64) -> Result<(), Memory
     push_number(text, number)
 }
 
+/// Begins a line with the word and the number.
+fn begin_line(text: &mut Vec<u8>, word: &[u8], number: u64) -> Result<(), Memory>
+    ensures { OnOk result (text.new.items ≡ text.old.items ++ (word.now ++ 32 ∷ decimal number)) }
+{
+    text.extend_from_slice(word)?;
+    push_number(text, number)
+}
+
 /// Appends what a cycle found and may leave.
 fn push_found(text: &mut Vec<u8>, plan: &CyclePlan) -> Result<(), Memory>
     ensures { OnOk result (text.new.items ≡ text.old.items ++ words_with_spaces (found_words plan.now)) }
@@ -38,8 +46,7 @@ fn push_left(text: &mut Vec<u8>, plan: &CyclePlan) -> Result<(), Memory>
 fn push_cycle(text: &mut Vec<u8>, plan: &CyclePlan) -> Result<(), Memory>
     ensures { OnOk result (text.new.items ≡ text.old.items ++ (cycle_line plan.now ++ 10 ∷ [])) }
 {
-    text.extend_from_slice(b"cycle")?;
-    push_number(text, plan.cycle)?;
+    begin_line(text, b"cycle", plan.cycle)?;
     push_found(text, plan)?;
     push_left(text, plan)?;
     text.push(b'\n')?;
@@ -74,8 +81,7 @@ fn push_most(text: &mut Vec<u8>, report: &PlanReport) -> Result<(), Memory>
 fn push_sizes(text: &mut Vec<u8>, report: &PlanReport) -> Result<(), Memory>
     ensures { OnOk result (text.new.items ≡ text.old.items ++ (sizes_line report.now ++ 10 ∷ [])) }
 {
-    text.extend_from_slice(b"groups")?;
-    push_number(text, report.groups)?;
+    begin_line(text, b"groups", report.groups)?;
     push_named(text, b"turns", report.turns)?;
     text.push(b'\n')?;
     Ok(())
@@ -86,8 +92,7 @@ fn push_sizes(text: &mut Vec<u8>, report: &PlanReport) -> Result<(), Memory>
 fn push_full(text: &mut Vec<u8>, report: &PlanReport) -> Result<(), Memory>
     ensures { OnOk result (text.new.items ≡ text.old.items ++ (full_line report.now ++ 10 ∷ [])) }
 {
-    text.extend_from_slice(b"full")?;
-    push_number(text, report.full)?;
+    begin_line(text, b"full", report.full)?;
     text.push(b'\n')?;
     Ok(())
 }
