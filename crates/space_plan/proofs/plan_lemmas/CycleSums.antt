@@ -6,7 +6,7 @@ use Rattle.heap_model.specs.Board.{board_fragments}
 use Rattle.heap_model.specs.declared.entry.Entry.{Entry}
 use Rattle.heap_model.specs.declared.heap.Heap.{Heap}
 use Rattle.heap_model.specs.declared.id.Id.{Id}
-use Rattle.heap_model.specs.account.Cycles.{graph_of, bound, brings}
+use Rattle.heap_model.specs.account.Cycles.{graph_of, bound}
 use Rattle.heap_model.specs.account.Effects.{effect_of}
 use Rattle.heap_model.specs.account.Space.{total, taken_of, fragments_unborn}
 use Rattle.heap_model.specs.account.Windows.{begins_cycle, up_to_reply, since_reply, up_to_cycle, since_cycle, after_last}

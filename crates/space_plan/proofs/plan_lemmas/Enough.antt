@@ -1,8 +1,8 @@
 -- A play on as many groups as its plan names refuses nothing for want of fragments.
-use Rattle.std.proofs.Common.{◌≡◌, ℕ, ◌+◌, ◌*◌, ◌<◌, ◌≤◌, List, [], ◌∷◌, ◌++◌, inl, inr, true, false, cond, get_or, map, Contains, append_assoc, refl, sym, ap, ◌∙◌, subst, arith}
+use Rattle.std.proofs.Common.{◌≡◌, ℕ, ◌+◌, ◌*◌, ◌≤◌, List, [], ◌∷◌, ◌++◌, inl, inr, true, cond, get_or, map, Contains, append_assoc, refl, sym, ap, ◌∙◌, subst, arith}
 use Rattle.std.specs.Prelude.{count_by}
 use Rattle.std.specs.List.{AllZip, list_any, range_with_len}
-use Rattle.std.proofs.lemmas.Bool.{cases_Bool, cond-true, cond-false}
+use Rattle.std.proofs.lemmas.Bool.{cases_Bool, cond-false}
 use Rattle.std.proofs.lemmas.Grind.{div_ceil_times}
 use Rattle.std.proofs.lemmas.List.{append-nil, map-append}
 use Rattle.std.proofs.lemmas.List.Elements.{Contains-append_right}
@@ -18,8 +18,8 @@ use Rattle.heap_model.specs.declared.reply.Reply.TheVariants.{Full}
 use Rattle.heap_model.specs.account.Account.{KeepsSpace, KeepsSpaceAfter}
 use Rattle.heap_model.specs.account.Cycles.{graph_of, bound}
 use Rattle.heap_model.specs.account.Effects.{effect_of}
-use Rattle.heap_model.specs.account.Space.{total, fragments_gained, fragments_lost, fragments_unborn, taken_of, spent_of, need_of}
-use Rattle.heap_model.specs.account.Windows.{begins_cycle, up_to_reply, up_to_cycle, since_cycle, after_last, up_to_last}
+use Rattle.heap_model.specs.account.Space.{total, fragments_gained, fragments_lost, fragments_unborn, need_of}
+use Rattle.heap_model.specs.account.Windows.{begins_cycle, up_to_reply, up_to_cycle, since_cycle, after_last}
 use Rattle.heap_model.specs.graph.Reach.{IsReach}
 use Rattle.heap_model.proofs.Histories.{total-more}
 use Rattle.heap_model.proofs.graph_lemmas.Heads.{contains_cases, contains_head}

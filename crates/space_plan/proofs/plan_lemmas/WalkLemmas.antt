@@ -1,5 +1,5 @@
 -- A walk that has gone over one more entry, and over all.
-use Rattle.std.proofs.Common.{◌≡◌, ℕ, ◌+◌, ◌*◌, ◌<◌, ◌≤◌, ◌⊎◌, inl, inr, max, List, [], ◌∷◌, ◌++◌, get_or, length, sym, ap, ◌∙◌, subst, arith}
+use Rattle.std.proofs.Common.{◌≡◌, ℕ, ◌+◌, ◌<◌, ◌≤◌, inl, inr, max, List, [], ◌∷◌, ◌++◌, get_or, length, sym, ap, ◌∙◌, subst, arith}
 use Rattle.std.specs.List.{AllByRecursion, AllZip}
 use Rattle.std.proofs.lemmas.Bool.{cases_lt}
 use Rattle.std.proofs.lemmas.List.Elements.{All-from_recursion, All-get_or}
@@ -16,7 +16,7 @@ use Rattle.space_plan.specs.plan.Moments.{ends_of}
 use Rattle.space_plan.specs.plan.Takes.{IsTaken, IsTakenAtAny, taken_since_end}
 use Rattle.space_plan.specs.plan.Totals.{IsGreatest, IsReached}
 use Rattle.space_plan.specs.plan.Seats.{SeatFits, space_at}
-use Rattle.space_plan.specs.plan.Walking.{BegunFits, BegunTells, EndedTells, LedgerFits, LedgerTells, Passed, WalkFits}
+use Rattle.space_plan.specs.plan.Walking.{BegunTells, EndedTells, LedgerTells, Passed, WalkFits}
 
 -- each part has gone over the entry
 pub Passed-more : (old new : Walk) (history : List Entry) (entry : Entry) → Passed old history → new.ledger.heap ≡ old.ledger.heap → new.graph ≡ after_entry old.graph entry

@@ -1,6 +1,6 @@
-use Rattle.std.proofs.Common.{◌≡◌, ◌≤◌, [], sym, ap, ◌∙◌, subst, arith}
+use Rattle.std.proofs.Common.{[], sym, ap, ◌∙◌, subst, arith}
 use Rattle.std.specs.Prelude.{sum}
-use Rattle.heap_model.specs.graph.Graph.{Graph, opening}
+use Rattle.heap_model.specs.graph.Graph.{opening}
 use Rattle.heap_model.specs.graph.Objects.{made_counts}
 use Rattle.space_plan.specs.plan.Walking.{LedgerTells}
 use Rattle.space_plan.proofs.plan_lemmas.ReachedIds.{none_made_at_opening}

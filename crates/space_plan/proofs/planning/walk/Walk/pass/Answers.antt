@@ -1,4 +1,4 @@
-use Rattle.std.proofs.Common.{◌≡◌, ◌+◌, ◌≤◌, ap, arith}
+use Rattle.std.proofs.Common.{◌+◌, ◌≤◌, ap, arith}
 use Rattle.std.specs.Prelude.{sum}
 use Rattle.heap_model.specs.graph.Objects.{made_counts}
 use Rattle.space_plan.proofs.plan_lemmas.ReachedIds.{made-more}
