@@ -1,6 +1,6 @@
 -- What several seats have run is joined, and comes to whole runs.
 use Rattle.std.proofs.Common.{◌≡◌, ℕ, zero, suc, ◌+◌, ◌<◌, ◌≤◌, List, [], ◌∷◌, ◌++◌, length, map, get_or, set, refl, sym, ap, ◌∙◌, subst, append-nil, add-zero, zero-add, arith}
-use Rattle.std.specs.Prelude.{All, Contains, IfOk, IsPermutation, Ok, Option, Result, Some, slice_get, slice_index, sum_by}
+use Rattle.std.specs.Prelude.{All, IfOk, IsPermutation, Ok, Option, Result, Some, slice_get, slice_index, sum_by}
 use Rattle.std.specs.List.{range_with_len, AllPairs}
 use Rattle.std.specs.List.Sorted.{IsNonDecreasingBy, IsStrictlyIncreasing}
 use Rattle.std.proofs.lemmas.List.{length-append, length-map, map-append, get_or-map}

@@ -1,6 +1,6 @@
 -- What a seat has run stays so as its log grows, and one job more is run.
-use Rattle.std.proofs.Common.{◌≡◌, ℕ, ◌+◌, ◌<◌, ◌≤◌, List, [], ◌∷◌, ◌++◌, length, get_or, refl, sym, ap, ◌∙◌, subst, append_assoc, append-nil, arith}
-use Rattle.std.specs.Prelude.{All, slice_index}
+use Rattle.std.proofs.Common.{◌≡◌, ℕ, ◌≤◌, List, [], ◌∷◌, ◌++◌, length, get_or, refl, sym, ap, ◌∙◌, subst, append_assoc, append-nil, arith}
+use Rattle.std.specs.Prelude.{slice_index}
 use Rattle.std.proofs.lemmas.List.{length-append, map-append}
 use Rattle.std.proofs.lemmas.List.Elements.{All-weaker, All-push, All-nil, All-get_or}
 use Rattle.std.proofs.lemmas.List.Quantifiers.{all_pairs_push}
@@ -10,7 +10,7 @@ use Rattle.script_crew.specs.declared.job.JobRun.{JobRun}
 use Rattle.script_crew.specs.declared.noted_seat.NotedSeat.{NotedSeat}
 use Rattle.script_crew.specs.declared.place_rule.Tally.{Tally}
 use Rattle.script_crew.specs.Places.{tally, HasPopped}
-use Rattle.script_crew.specs.Runs.{job_numbers, clears, with_polls, EndsBefore, TellsFromTo, IsRunOf, IsRunOn}
+use Rattle.script_crew.specs.Runs.{job_numbers, clears, with_polls, EndsBefore, TellsFromTo, IsRunOn}
 use Rattle.script_crew.specs.Working.{GoesOn, HasRun}
 
 -- a log that grows tells what it told

@@ -1,6 +1,6 @@
 -- Lists with the same measures, and which numbers stand at which places.
-use Rattle.std.proofs.Common.{◌≡◌, ℕ, zero, suc, ◌+◌, ◌-◌, ◌<◌, ◌≤◌, List, [], ◌∷◌, ◌++◌, map, length, refl, sym, ap, ◌∙◌, subst, ⊎_elim, get_or, lt_of_not-le, eq-or-lt_of_le, zero-add, arith}
-use Rattle.std.specs.Prelude.{All, Contains, IsPermutation, slice_index, sum_by}
+use Rattle.std.proofs.Common.{◌≡◌, ℕ, suc, ◌+◌, ◌-◌, ◌<◌, ◌≤◌, List, [], ◌∷◌, ◌++◌, map, length, refl, sym, ap, ◌∙◌, subst, ⊎_elim, get_or, lt_of_not-le, eq-or-lt_of_le, zero-add, arith}
+use Rattle.std.specs.Prelude.{IsPermutation, slice_index, sum_by}
 use Rattle.std.specs.List.{range_with_len}
 use Rattle.std.specs.List.Sorted.{IsNonDecreasing, IsNonDecreasingBy, IsStrictlyIncreasing}
 use Rattle.std.proofs.lemmas.List.{length-map, get_or-map}

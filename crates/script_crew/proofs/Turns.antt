@@ -1,5 +1,5 @@
 -- Runs that end one before the other don't overlap, in whatever order they are listed.
-use Rattle.std.proofs.Common.{◌≡◌, ◌≢◌, ℕ, zero, suc, ◌<◌, ◌≤◌, ◌⊎◌, List, [], ◌∷◌, ◌++◌, get_or, sym, subst, ⊎_elim, inl, inr, ◌∙◌, arith}
+use Rattle.std.proofs.Common.{◌≡◌, suc, ◌<◌, ◌⊎◌, List, [], ◌∷◌, ◌++◌, get_or, sym, subst, ⊎_elim, inl, inr, ◌∙◌, arith}
 use Rattle.std.specs.Prelude.{All, Contains, IsPermutation}
 use Rattle.std.specs.List.{AllPairs}
 use Rattle.std.proofs.lemmas.Bool.{cases_order}

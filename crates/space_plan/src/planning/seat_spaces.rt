@@ -13,6 +13,7 @@ pub struct SeatSpaces {
 }
 
 /// The fragments that seats had together right after their last replies, and those that they took since.
+#[derive(Clone, Copy)]
 pub struct SpaceSums {
     pub reserves: u64,
     pub since: u64,

@@ -1,4 +1,4 @@
-use Rattle.std.proofs.Common.{◌≡◌, ◌<◌, length, sym, ap, subst, ◌∙◌, arith}
+use Rattle.std.proofs.Common.{◌<◌, length, sym, ap, subst, ◌∙◌, arith}
 use Rattle.crossbeam_queue.specs.Passes.{view}
 use Rattle.script_crew.specs.declared.place_rule.Tally.{Tally}
 use Rattle.script_crew.specs.Runs.{IsRunOn}

@@ -1,4 +1,4 @@
-use Rattle.std.proofs.Common.{◌≡◌, ap, ◌∙◌, arith}
+use Rattle.std.proofs.Common.{◌≡◌, ◌≤◌, ap, ◌∙◌, arith}
 use Rattle.space_plan.specs.plan.Seats.{reserve_of, since_of, space_at}
 use Rattle.space_plan.proofs.plan_lemmas.SeatSums.{reserves_are_told, reserves_fit, since_fits, since_is_told, sum_below-more}
 use Rattle.space_plan.proofs.planning.seat_spaces.SeatSpaces.sums.Goals as goal
@@ -8,8 +8,8 @@ loop-seat-preserved c =
     let spaces = c.args.self.now.spaces in
     let i = c.loop-seat.seat in
     let invariant = c.loop-seat.invariant in
-    let reserve : c.reserve.result ≡ reserve_of (space_at spaces i) = c.reserve.ensures ∙ ap reserve_of c.space.ensures in
-    let since : c.since.result ≡ since_of (space_at spaces i) = c.since.ensures ∙ ap since_of c.space.ensures in
+    let reserve : c.reserve-reserves.result ≡ reserve_of (space_at spaces i) = c.reserve-reserves.ensures ∙ ap reserve_of c.space-space.ensures in
+    let since : c.since-since.result ≡ since_of (space_at spaces i) = c.since-since.ensures ∙ ap since_of c.space-space.ensures in
     let few = c.requires.few i in
     record {
       reserves = sum_below-more reserve_of spaces i _ _ invariant.reserves reserve;
