@@ -77,7 +77,7 @@ module _ (counts : EachCallCounts) (others : EachCallSparesOthers) (heap : Heap)
   }
 
 -- turns change no graph
-graph_stays : (g : Graph) (added : List Entry) → AreTurns added → graph_after g added ≡ g
+pub graph_stays : (g : Graph) (added : List Entry) → AreTurns added → graph_after g added ≡ g
 graph_stays g [] turned = refl
 graph_stays g (entries.Said number command reply ∷ added) turned = cc turned.0
 graph_stays g (_ ∷ added) turned = graph_stays g added turned.1
@@ -89,7 +89,7 @@ module _ (old new : PlayState) (added : List Entry) (same_heap : new.heap ≡ ol
       ap (λ h. graph_seat (graph_after (opening h) new.entries) number) same_heap ∙ ap (λ es. graph_seat (graph_after (opening old.heap) es) number) told
       ∙ ap (λ g. graph_seat g number) (fold-append after_entry (opening old.heap) old.entries added ∙ quiet (graph_after (opening old.heap) old.entries))
 
-  plays_more : (heap : Heap) (calls more : ℕ) → calls ≤ more → IsPlaying heap old calls → IsPlaying heap new more
+  pub plays_more : (heap : Heap) (calls more : ℕ) → calls ≤ more → IsPlaying heap old calls → IsPlaying heap new more
   plays_more heap calls more less plays = record {
     of_heap = same_heap ∙ plays.of_heap;
     present = λ number below. ap (λ (seat : GraphSeat). seat.left) (seat_stays number) ∙ plays.present number below;

@@ -4,36 +4,37 @@ use Rattle.heap_model.specs.declared.command.Command.{Command}
 use Rattle.heap_model.specs.declared.command.TurnCommand.{TurnCommand}
 use Rattle.heap_model.specs.declared.entry.Entry.{Entry}
 use Rattle.heap_model.specs.declared.entry.Entry.TheVariants as entries
+use Rattle.heap_model.specs.declared.reply.Reply.{Reply}
 use Rattle.script_text.specs.declared.script.Line.{Line}
 use Rattle.script_text.specs.declared.script.Line.TheVariants as lines
-use Rattle.heap_runs.specs.Play.{StandsForLine, StandForLines}
-use Rattle.heap_runs.specs.PlayHeap.{PlayState}
+use Rattle.heap_runs.specs.Play.{StandsForLine, StandForEach, StandForLines}
+use Rattle.heap_runs.specs.PlayHeap.{PlayState, AnswersCall}
 use Rattle.heap_runs.specs.Playing.{NotesLine, NotesLines, NotesSeatLine, NotesTurns}
 use Rattle.heap_record.specs.Recorded.{claimed_by}
 use Rattle.heap_runs.proofs.Serving.{served_turns_add, served_turns_are_told}
-use Rattle.heap_runs.proofs.Slacking.{pace_adds_slack}
+use Rattle.heap_runs.proofs.Slacking.{AddsSlack, pace_adds_slack}
 use Rattle.heap_runs.proofs.Told.{tells_call}
 
 -- no line is answered yet
 pub no_lines_stand : (paced : Bool) (history : List Entry) → history ≡ [] → StandForLines paced [] [] history
 no_lines_stand paced history none = none
 
--- one line more is answered
-pub lines_more : (paced : Bool) (earlier : List Entry) (read : List Line) (line : Line) (told next : List Entry) → StandForLines paced earlier read told → StandsForLine paced (earlier ++ told) line next
-    → StandForLines paced earlier (read ++ line ∷ []) (told ++ next)
-lines_more paced earlier [] line told next none stands = (
+-- one line more is answered, whatever stands for it
+pub lines_more : (Stands : List Entry → Line → List Entry → Type 0) (earlier : List Entry) (read : List Line) (line : Line) (told next : List Entry) → StandForEach Stands earlier read told → Stands (earlier ++ told) line next
+    → StandForEach Stands earlier (read ++ line ∷ []) (told ++ next)
+lines_more Stands earlier [] line told next none stands = (
   next,
   [],
-  subst (λ (es : List Entry). StandsForLine paced es line next) (ap (λ (es : List Entry). earlier ++ es) none ∙ append-nil earlier) stands,
+  subst (λ (es : List Entry). Stands es line next) (ap (λ (es : List Entry). earlier ++ es) none ∙ append-nil earlier) stands,
   refl,
   ap (λ (es : List Entry). es ++ next) none ∙ sym (append-nil next),
 )
-lines_more paced earlier (first ∷ read) line told next stand stands = (
+lines_more Stands earlier (first ∷ read) line told next stand stands = (
   stand.0,
   stand.1 ++ next,
   stand.2,
-  lines_more paced (earlier ++ stand.0) read line stand.1 next stand.3
-      (subst (λ (es : List Entry). StandsForLine paced es line next) (ap (λ (es : List Entry). earlier ++ es) stand.4 ∙ sym (append_assoc earlier stand.0 stand.1)) stands),
+  lines_more Stands (earlier ++ stand.0) read line stand.1 next stand.3
+      (subst (λ (es : List Entry). Stands es line next) (ap (λ (es : List Entry). earlier ++ es) stand.4 ∙ sym (append_assoc earlier stand.0 stand.1)) stands),
   ap (λ (es : List Entry). es ++ next) stand.4 ∙ append_assoc stand.0 stand.1 next,
 )
 
@@ -46,29 +47,34 @@ pub record AddsLine (paced : Bool) (old new : PlayState) (line : Line) : Type 0 
 -- so one line more is answered
 pub stand_for_one_more_line : (paced : Bool) (read : List Line) (line : Line) (old new : PlayState) → StandForLines paced [] read old.entries → AddsLine paced old new line → StandForLines paced [] (read ++ line ∷ []) new.entries
 stand_for_one_more_line paced read line old new stand adds =
-    subst (StandForLines paced [] (read ++ line ∷ [])) (sym adds.noted) (lines_more paced [] read line old.entries adds.next stand adds.stands)
+    subst (StandForLines paced [] (read ++ line ∷ [])) (sym adds.noted) (lines_more (StandsForLine paced) [] read line old.entries adds.next stand adds.stands)
+
+-- a call, with what turns of the collector told behind it
+pub answered_call_adds_its_line : (paced : Bool) (old now new : PlayState) (number : ℕ) (command : Command) (reply : Reply) → AnswersCall old now number command reply → AddsSlack paced now new
+    → AddsLine paced old new (lines.Seat number command)
+answered_call_adds_its_line paced old now new number command reply answers slack =
+    let tells = tells_call old now number command reply answers in
+    let more : List Entry = tells.before ++ entries.Said number command reply ∷ [] in
+    record {
+      next = more ++ slack.adds.added;
+      stands = record {
+        before = tells.before;
+        reply = reply;
+        slack = slack.adds.added;
+        comes = tells.comes;
+        turned = slack.adds.turned;
+        unpaced = slack.none;
+        all = refl;
+      };
+      noted = slack.adds.told ∙ ap (λ (es : List Entry). es ++ slack.adds.added) tells.told ∙ append_assoc old.entries more slack.adds.added;
+    }
 
 -- a seat's line
 pub call_adds_its_line : (asks : Option (ℕ → ℕ)) (paced : Bool) (old new : PlayState) (number : ℕ) (command : Command) → is_some asks ≡ paced → NotesSeatLine asks old new number command
     → AddsLine paced old new (lines.Seat number command)
 call_adds_its_line asks paced old new number command is notes =
-    let call = notes.call in
-    let slack = pace_adds_slack asks (claimed_by call.added) notes.now new notes.slack in
-    let tells = tells_call old notes.now number command call.reply call.answers in
-    let more : List Entry = tells.before ++ entries.Said number command call.reply ∷ [] in
-    record {
-      next = more ++ slack.adds.added;
-      stands = record {
-        before = tells.before;
-        reply = call.reply;
-        slack = slack.adds.added;
-        comes = tells.comes;
-        turned = slack.adds.turned;
-        unpaced = λ none. slack.none (is ∙ none);
-        all = refl;
-      };
-      noted = slack.adds.told ∙ ap (λ (es : List Entry). es ++ slack.adds.added) tells.told ∙ append_assoc old.entries more slack.adds.added;
-    }
+    answered_call_adds_its_line paced old notes.now new number command notes.call.reply notes.call.answers
+    (subst (λ paced. AddsSlack paced notes.now new) is (pace_adds_slack asks (claimed_by notes.call.added) notes.now new notes.slack))
 
 -- a line for the collector
 pub turns_add_their_line : (paced : Bool) (old new : PlayState) (command : TurnCommand) → NotesTurns old new command → AddsLine paced old new (lines.Turns command)

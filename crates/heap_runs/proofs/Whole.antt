@@ -37,6 +37,13 @@ none_used empties heap told turned played gone cycle =
     let empty = empties heap true (before ++ last.steps) last.cycle last.kept (subst (IsLegal heap true) all played.legal) left in
     (omega (arith, ap (fragments_used heap) all, empty.0, played.none_short), omega (arith, ap words_used all, empty.1, returned_within heap (told ++ turned) played.legal))
 
+-- what was told before the seats left is the front of what was told in the end
+pub front_is_told : (script : Script) (middle gone last : PlayState) (told : List Entry) (before : ℕ) → HaveLeft script.heap middle gone script.heap.seats → NotesLastCycle gone last → told ≡ last.entries → before ≡ length middle.entries
+    → take before told ≡ middle.entries
+front_is_told script middle gone last told before left notes listed is =
+    let leaving : List Entry = flat_map (λ number. leave_entries number (left.left number)) (range_with_len 0 script.heap.seats) in
+    rw (listed ∙ notes.told ∙ ap (λ es. es ++ notes.turned) left.leaves ∙ append_assoc middle.entries leaving notes.turned) (take_at middle.entries _ before (sym is))
+
 -- the whole play: the script was answered, the seats have left, and a last cycle was made
 pub script_is_played_whole : EachLastCycleEmpties → (paced : Bool) (script : Script) (middle gone last : PlayState) (entries : List Entry) (mark : SpaceMark) (used : ℕ) (told : History)
     → StandForLines paced [] script.lines middle.entries → HaveLeft script.heap middle gone script.heap.seats → NotesLastCycle gone last → IsPlayed script.heap last.entries → entries ≡ last.entries

@@ -10,3 +10,4 @@ pub mod Role
 pub mod CollectCall
 pub mod SeatWork
 pub mod RunningSeats
+pub mod Pressed

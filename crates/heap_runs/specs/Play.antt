@@ -112,10 +112,14 @@ StandsForLine paced earlier (lines.Seat number command) told = StandsForCall pac
 StandsForLine paced earlier (lines.Turns command) told = StandsForTurns command told
 
 -- behind the earlier entries there stands what stands for each of these lines, one after another, and nothing else
+abbrev pub StandForEach : (List Entry → Line → List Entry → Type 0) → List Entry → List Line → List Entry → Type 0
+StandForEach Stands earlier [] told = told ≡ []
+StandForEach Stands earlier (line ∷ more) told =
+    (here : List Entry) × (rest : List Entry) × Stands earlier line here × StandForEach Stands (earlier ++ here) more rest × (told ≡ here ++ rest)
+
+-- so does what stands for each line where every command is made once
 abbrev pub StandForLines : Bool → List Entry → List Line → List Entry → Type 0
-StandForLines paced earlier [] told = told ≡ []
-StandForLines paced earlier (line ∷ more) told =
-    (here : List Entry) × (rest : List Entry) × StandsForLine paced earlier line here × StandForLines paced (earlier ++ here) more rest × (told ≡ here ++ rest)
+StandForLines paced earlier lines told = StandForEach (StandsForLine paced) earlier lines told
 
 -- each seat gives back what it has left over, if anything, and leaves, in the order of their numbers
 abbrev pub AreLeaves : ℕ → List Entry → Type 0

@@ -1,4 +1,5 @@
-ghost use Rattle.std.specs.Prelude.{◌≡◌, true, [], length, is_some, option_map, IfOk, OnOk};
+ghost use Rattle.std.specs.Prelude.{◌≡◌, Bool, List, [], length, take, is_some, option_map, IfOk, OnOk, IsSomeAnd};
+ghost use Rattle.script_text.specs.declared.script.Line.{Line};
 ghost use Rattle.script_text.specs.declared.script.Form.TheVariants.{Play};
 ghost use Rattle.script_text.specs.Writing.{IsOfForm};
 ghost use Rattle.heap_runs.specs.Play.{IsPlay, StandForLines};
@@ -17,6 +18,7 @@ use script_text::{Form, Line, Script, Sequence};
 use slack_pace::Pace;
 
 mod noting;
+pub(crate) mod pressed;
 mod use_count;
 
 /// Makes a whole call of the seat, with a pace also the turns that it asks for by what the call claimed.
@@ -91,22 +93,21 @@ fn make_last_cycle<H: PlayHeap>(whole: &mut H) -> Result<(), Memory>
     Ok(())
 }
 
-/// The history of a play of the script on the heap, which is the script's. At its end nothing is in use.
-/// With a pace, the collector makes the turns that it asks for behind each line of a seat.
-pub fn play<H: PlayHeap + Drop>(
-    whole: H,
+/// Lets the seats of a heap whose lines are answered leave, makes a last cycle, and hands over the history: a play of whatever
+/// lines were answered. At its end nothing is in use.
+fn end_play<H: PlayHeap + Drop>(
+    mut whole: H,
     heap: Heap,
     script: &Script,
-    pace: Option<Box<dyn Pace>>,
 ) -> Result<History, Memory>
-    requires fresh { (H.state whole).entries ≡ [] }
-    requires whole { (H.state whole).heap ≡ heap }
     requires heap { heap ≡ script.now.heap }
     requires form { IsOfForm Play script.now }
-    ensures { IfOk result (IsPlay (is_some pace) script.now) }
+    requires plays { IsPlaying script.now.heap (H.state whole) (length script.now.lines) }
+    ensures play { IfOk result (λ history. (paced : Bool) (lines : List Line) → StandForLines paced [] lines (H.state whole).entries
+        → IsPlay paced (record script.now { lines = lines }) history) }
+    ensures mark { IfOk result (λ history. IsSomeAnd history.mark (λ mark. take mark.before history.entries ≡ (H.state whole).entries)) }
 {
     law_sweep_exact();
-    let mut whole = answer_lines(whole, script, pace)?;
     let mark = SpaceMark {
         before: whole.entries().len(),
         used: in_use(&heap, whole.entries()),
@@ -123,4 +124,22 @@ pub fn play<H: PlayHeap + Drop>(
         entries: Sequence::from_vec(whole.into_entries()),
         mark: Some(mark),
     })
+}
+
+/// The history of a play of the script on the heap, which is the script's. At its end nothing is in use.
+/// With a pace, the collector makes the turns that it asks for behind each line of a seat.
+pub fn play<H: PlayHeap + Drop>(
+    whole: H,
+    heap: Heap,
+    script: &Script,
+    pace: Option<Box<dyn Pace>>,
+) -> Result<History, Memory>
+    requires fresh { (H.state whole).entries ≡ [] }
+    requires whole { (H.state whole).heap ≡ heap }
+    requires heap { heap ≡ script.now.heap }
+    requires form { IsOfForm Play script.now }
+    ensures { IfOk result (IsPlay (is_some pace) script.now) }
+{
+    let whole = answer_lines(whole, script, pace)?;
+    end_play(whole, heap, script)
 }
