@@ -14,12 +14,12 @@ use Rattle.script_crew.specs.declared.crew.NotedCrew.{NotedCrew}
 use Rattle.script_crew.specs.declared.job.Job.{Job}
 use Rattle.script_crew.specs.declared.job.JobRun.{JobRun}
 use Rattle.script_crew.specs.declared.noted_seat.NotedSeat.{NotedSeat}
-use Rattle.script_crew.specs.declared.place_rule.Tally.{Tally}
+use Rattle.script_crew.specs.declared.position_rule.Tally.{Tally}
 use Rattle.script_crew.specs.declared.worker.Worked.{Worked}
 use Rattle.script_crew.specs.declared.worker.Worker.{Worker}
-use Rattle.script_crew.specs.Places.{tally}
+use Rattle.script_crew.specs.Positions.{tally}
 use Rattle.script_crew.specs.Runs.{job_numbers, run_numbers, seat_numbers, EndsBefore, IsRunOn, IsRunAmong, AreWhole}
-use Rattle.script_crew.specs.Working.{places_of, numbers_at, GoesOn, HasRun, HaveRun, HasWorked, HaveWorked}
+use Rattle.script_crew.specs.Working.{positions_of, numbers_at, GoesOn, HasRun, HaveRun, HasWorked, HaveWorked}
 use Rattle.script_crew.proofs.Running.{ends_within, run_stays}
 use Rattle.script_crew.proofs.SameLists.{in_order, range-push}
 use Rattle.script_crew.proofs.Turns.{AllPairs-append, apart-from_in_turn}
@@ -56,7 +56,7 @@ among_more jobs seats seat run ran = record {
 -- no worker was joined yet
 pub none_joined : (jobs : List Job) (one : Tally) (crew : NotedCrew) → one.popped ≡ [] → crew.seats.items ≡ [] → crew.runs.items ≡ [] → HaveRun jobs one 0 one crew
 none_joined jobs one crew none seats_are runs_are = record {
-  places = [];
+  positions = [];
   popped = λ i. tally (sym (add-zero one.shares) i) one.pushed (none i) one.known;
   numbers = ap run_numbers runs_are;
   count = ap (λ xs. length xs) seats_are;
@@ -67,13 +67,13 @@ none_joined jobs one crew none seats_are runs_are = record {
 
 -- one worker more was joined
 pub one_more_joined : (jobs : List Job) (first old new both : Tally) (n : ℕ) (crew later : NotedCrew) (before seat : NotedSeat) (runs : List JobRun) → HaveRun jobs first n old crew
-    → before.number ≡ n → HasRun jobs (tally 1 [] [] (places_of jobs)) new before seat runs → both ≡ tally (old.shares + new.shares) (old.pushed ++ new.pushed) (old.popped ++ new.popped) old.known
+    → before.number ≡ n → HasRun jobs (tally 1 [] [] (positions_of jobs)) new before seat runs → both ≡ tally (old.shares + new.shares) (old.pushed ++ new.pushed) (old.popped ++ new.popped) old.known
     → later.seats.items ≡ crew.seats.items ++ seat ∷ [] → later.runs.items ≡ crew.runs.items ++ runs → HaveRun jobs first (n + 1) both later
 one_more_joined jobs first old new both n crew later before seat runs had number_is ran both_is seats_are runs_are = record {
-  places = had.places ++ ran.places;
+  positions = had.positions ++ ran.positions;
   popped = both_is ∙ (λ i. tally (shares i) (pushed i) ((had.popped i).popped ++ (ran.popped i).popped) (had.popped i).known);
   numbers = ap run_numbers runs_are ∙ (map-append (λ run. run.job) crew.runs.items runs
-      ∙ ((λ i. had.numbers i ++ ran.numbers i) ∙ sym (map-append (λ place. slice_index (job_numbers jobs) place) had.places ran.places)));
+      ∙ ((λ i. had.numbers i ++ ran.numbers i) ∙ sym (map-append (λ position. slice_index (job_numbers jobs) position) had.positions ran.positions)));
   count = omega (arith, ap (λ xs. length xs) seats_are, length-append crew.seats.items (seat ∷ []), had.count);
   numbered = ap seat_numbers seats_are ∙ (map-append (λ one. one.number) crew.seats.items (seat ∷ []) ∙ ((λ i. had.numbered i ++ number i ∷ []) ∙ range-push n));
   each = subst (λ seats. All (IsRunAmong jobs seats) later.runs.items) (sym seats_are) (subst (All (IsRunAmong jobs (crew.seats.items ++ seat ∷ []))) (sym runs_are)
@@ -135,27 +135,27 @@ numbers_stay (x ∷ xs) old new some is same = λ i. (same ∙ ap (λ (seat : No
 
 -- once the queue was empty for the pass that has every share, the runs are whole
 pub runs_are_whole : (jobs : List Job) (first old new : Tally) (n : ℕ) (crew : NotedCrew) (before after : NotedSeat) (rest sorted : List JobRun)
-    → first.pushed ≡ places_of jobs → HaveRun jobs first n old crew → 0 < length crew.seats.items → before ≡ get_or crew.seats.items 0 before → HasRun jobs old new before after rest
+    → first.pushed ≡ positions_of jobs → HaveRun jobs first n old crew → 0 < length crew.seats.items → before ≡ get_or crew.seats.items 0 before → HasRun jobs old new before after rest
     → ((measure : ℕ → ℕ) → sum_by measure new.popped ≡ sum_by measure new.pushed) → IsPermutation (crew.runs.items ++ rest) sorted → IsNonDecreasingBy (λ run. run.job) sorted
     → IsStrictlyIncreasing (job_numbers jobs) → AreWhole jobs (set crew.seats.items 0 after) sorted
 runs_are_whole jobs first old new n crew before after rest sorted pushed had some is ran popped moved up rising = record {
-  once = in_order jobs (crew.runs.items ++ rest) sorted (had.places ++ ran.places) numbers places moved up rising;
+  once = in_order jobs (crew.runs.items ++ rest) sorted (had.positions ++ ran.positions) numbers positions moved up rising;
   each = All-permutation (IsRunAmong jobs (set crew.seats.items 0 after)) (crew.runs.items ++ rest) sorted moved
       (All-append (IsRunAmong jobs (set crew.seats.items 0 after)) crew.runs.items rest earlier later);
   apart = apart-from_in_turn (crew.runs.items ++ rest) sorted (AllPairs-append EndsBefore crew.runs.items rest had.in_turn ran.in_turn across) moved;
 }
   where
-    numbers : run_numbers (crew.runs.items ++ rest) ≡ numbers_at jobs (had.places ++ ran.places)
-    numbers = map-append (λ run. run.job) crew.runs.items rest ∙ ((λ i. had.numbers i ++ ran.numbers i) ∙ sym (map-append (λ place. slice_index (job_numbers jobs) place) had.places ran.places))
+    numbers : run_numbers (crew.runs.items ++ rest) ≡ numbers_at jobs (had.positions ++ ran.positions)
+    numbers = map-append (λ run. run.job) crew.runs.items rest ∙ ((λ i. had.numbers i ++ ran.numbers i) ∙ sym (map-append (λ position. slice_index (job_numbers jobs) position) had.positions ran.positions))
 
-    popped_is : new.popped ≡ had.places ++ ran.places
-    popped_is = (λ i. (ran.popped i).popped) ∙ (λ i. (had.popped i).popped ++ ran.places)
+    popped_is : new.popped ≡ had.positions ++ ran.positions
+    popped_is = (λ i. (ran.popped i).popped) ∙ (λ i. (had.popped i).popped ++ ran.positions)
 
-    pushed_is : new.pushed ≡ places_of jobs
+    pushed_is : new.pushed ≡ positions_of jobs
     pushed_is = (λ i. (ran.popped i).pushed) ∙ ((λ i. (had.popped i).pushed) ∙ pushed)
 
-    places : (measure : ℕ → ℕ) → sum_by measure (had.places ++ ran.places) ≡ sum_by measure (places_of jobs)
-    places measure = ap (sum_by measure) (sym popped_is) ∙ (popped measure ∙ ap (sum_by measure) pushed_is)
+    positions : (measure : ℕ → ℕ) → sum_by measure (had.positions ++ ran.positions) ≡ sum_by measure (positions_of jobs)
+    positions measure = ap (sum_by measure) (sym popped_is) ∙ (popped measure ∙ ap (sum_by measure) pushed_is)
 
     earlier : All (IsRunAmong jobs (set crew.seats.items 0 after)) crew.runs.items
     earlier = All-weaker (IsRunAmong jobs crew.seats.items) (IsRunAmong jobs (set crew.seats.items 0 after)) (λ run one. first_goes_on jobs crew.seats.items before after run some is ran.goes_on one) crew.runs.items had.each

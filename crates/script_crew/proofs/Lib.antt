@@ -1,5 +1,5 @@
 pub mod Sums
-pub mod PlaceMoves
+pub mod PassMoves
 pub mod SameLists
 pub mod Turns
 pub mod Running

@@ -8,8 +8,8 @@ use Rattle.heap_model.specs.declared.command.Command.{Command}
 use Rattle.script_crew.specs.declared.job.Job.{Job}
 use Rattle.script_crew.specs.declared.job.JobRun.{JobRun}
 use Rattle.script_crew.specs.declared.noted_seat.NotedSeat.{NotedSeat}
-use Rattle.script_crew.specs.declared.place_rule.Tally.{Tally}
-use Rattle.script_crew.specs.Places.{tally, HasPopped}
+use Rattle.script_crew.specs.declared.position_rule.Tally.{Tally}
+use Rattle.script_crew.specs.Positions.{tally, HasPopped}
 use Rattle.script_crew.specs.Runs.{job_numbers, clears, with_polls, EndsBefore, TellsFromTo, IsRunOn}
 use Rattle.script_crew.specs.Working.{GoesOn, HasRun}
 
@@ -61,7 +61,7 @@ goes_further one two three first second = record {
 -- nothing was run yet
 pub none_run : (jobs : List Job) (one : Tally) (seat : NotedSeat) (runs : List JobRun) → runs ≡ [] → HasRun jobs one one seat seat runs
 none_run jobs one seat runs none = subst (HasRun jobs one one seat seat) (sym none) (record {
-  places = [];
+  positions = [];
   popped = λ i. tally one.shares one.pushed (sym (append-nil one.popped) i) one.known;
   numbers = refl;
   goes_on = record { number_stays = refl; more = []; log_grows = sym (append-nil seat.log.items) };
@@ -71,12 +71,12 @@ none_run jobs one seat runs none = subst (HasRun jobs one one seat seat) (sym no
 })
 
 -- one job more was run
-pub one_more_run : (jobs : List Job) (first old new : Tally) (start before after : NotedSeat) (runs : List JobRun) (place : ℕ) (run : JobRun) → HasRun jobs first old start before runs → HasPopped old place new
-    → GoesOn before after → IsRunOn jobs after run → length before.log.items ≤ run.from → run.job ≡ slice_index (job_numbers jobs) place → HasRun jobs first new start after (runs ++ run ∷ [])
-one_more_run jobs first old new start before after runs place run had popped on ran behind number = record {
-  places = had.places ++ place ∷ [];
+pub one_more_run : (jobs : List Job) (first old new : Tally) (start before after : NotedSeat) (runs : List JobRun) (position : ℕ) (run : JobRun) → HasRun jobs first old start before runs → HasPopped old position new
+    → GoesOn before after → IsRunOn jobs after run → length before.log.items ≤ run.from → run.job ≡ slice_index (job_numbers jobs) position → HasRun jobs first new start after (runs ++ run ∷ [])
+one_more_run jobs first old new start before after runs position run had popped on ran behind number = record {
+  positions = had.positions ++ position ∷ [];
   popped = popped.one_more ∙ (λ i. tally (had.popped i).shares (had.popped i).pushed (longer i) (had.popped i).known);
-  numbers = map-append (λ one. one.job) runs (run ∷ []) ∙ ((λ i. had.numbers i ++ number i ∷ []) ∙ sym (map-append (λ one. slice_index (job_numbers jobs) one) had.places (place ∷ [])));
+  numbers = map-append (λ one. one.job) runs (run ∷ []) ∙ ((λ i. had.numbers i ++ number i ∷ []) ∙ sym (map-append (λ one. slice_index (job_numbers jobs) one) had.positions (position ∷ [])));
   goes_on = goes_further start before after had.goes_on on;
   on_seat = All-push (IsRunOn jobs after) runs run (All-weaker (IsRunOn jobs before) (IsRunOn jobs after) (run_stays jobs before after on) runs had.on_seat) ran;
   begin = All-push (λ one. length start.log.items ≤ one.from) runs run had.begin (omega (arith, ap (λ log. length log) had.goes_on.log_grows, length-append start.log.items had.goes_on.more, behind));
@@ -85,5 +85,5 @@ one_more_run jobs first old new start before after runs place run had popped on 
       omega (arith, ends, behind));
 }
   where
-    longer : old.popped ++ place ∷ [] ≡ first.popped ++ (had.places ++ place ∷ [])
-    longer = (λ i. (had.popped i).popped ++ place ∷ []) ∙ append_assoc first.popped had.places (place ∷ [])
+    longer : old.popped ++ position ∷ [] ≡ first.popped ++ (had.positions ++ position ∷ [])
+    longer = (λ i. (had.popped i).popped ++ position ∷ []) ∙ append_assoc first.popped had.positions (position ∷ [])

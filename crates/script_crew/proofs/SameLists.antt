@@ -1,4 +1,4 @@
--- Lists with the same measures, and which numbers stand at which places.
+-- Lists with the same measures, and which numbers stand at which positions.
 use Rattle.std.proofs.Common.{◌≡◌, ℕ, suc, ◌+◌, ◌-◌, ◌<◌, ◌≤◌, List, [], ◌∷◌, ◌++◌, map, length, refl, sym, ap, ◌∙◌, subst, ⊎_elim, get_or, lt_of_not-le, eq-or-lt_of_le, zero-add, arith}
 use Rattle.std.specs.Prelude.{IsPermutation, slice_index, sum_by}
 use Rattle.std.specs.List.{range_with_len}
@@ -10,10 +10,10 @@ use Rattle.std.proofs.lemmas.List.Sorted.{IsNonDecreasingBy-drop, IsNonDecreasin
 use Rattle.std.proofs.lemmas.List.Sums.{sum_by-cons, sum_by-le, sum_by_push}
 use Rattle.script_crew.specs.declared.job.Job.{Job}
 use Rattle.script_crew.specs.declared.job.JobRun.{JobRun}
-use Rattle.script_crew.specs.declared.place_rule.Tally.{Tally}
-use Rattle.script_crew.specs.Places.{HasPopped}
+use Rattle.script_crew.specs.declared.position_rule.Tally.{Tally}
+use Rattle.script_crew.specs.Positions.{HasPopped}
 use Rattle.script_crew.specs.Runs.{job_numbers, run_numbers}
-use Rattle.script_crew.specs.Working.{places_of, numbers_at}
+use Rattle.script_crew.specs.Working.{positions_of, numbers_at}
 
 -- where a list doesn't fall, its first number is at most each that a list with the same measures has first
 first_is_least : (x y : ℕ) (xs ys : List ℕ) → IsNonDecreasing (y ∷ ys) → ((measure : ℕ → ℕ) → sum_by measure (x ∷ xs) ≡ sum_by measure (y ∷ ys)) → y < suc x
@@ -36,9 +36,9 @@ sum_by-map : {X : Type 0} (measure : ℕ → ℕ) (f : X → ℕ) (xs : List X) 
 sum_by-map measure f [] = refl
 sum_by-map measure f (x ∷ xs) = omega (arith, sum_by-cons measure (f x) (map f xs), sum_by-cons (λ y. measure (f y)) x xs, sum_by-map measure f xs)
 
--- the numbers at all places are the jobs' numbers
-numbers_at_all : (jobs : List Job) → numbers_at jobs (places_of jobs) ≡ job_numbers jobs
-numbers_at_all jobs = sym (fill_by_all (λ place. slice_index (job_numbers jobs) place) (job_numbers jobs) (length jobs) 0 (length-map jobs (λ job. job.number)) (λ k few. refl))
+-- the numbers at all positions are the jobs' numbers
+numbers_at_all : (jobs : List Job) → numbers_at jobs (positions_of jobs) ≡ job_numbers jobs
+numbers_at_all jobs = sym (fill_by_all (λ position. slice_index (job_numbers jobs) position) (job_numbers jobs) (length jobs) 0 (length-map jobs (λ job. job.number)) (λ k few. refl))
 
 rising_is_no_fall : (xs : List ℕ) → IsStrictlyIncreasing xs → IsNonDecreasing xs
 rising_is_no_fall xs rising i j d le few =
@@ -55,35 +55,35 @@ sorted_numbers runs up =
     let short : j < length runs = omega (arith, few, length-map runs number) in
     omega (arith, get_or-map number runs i none 0 (omega (arith, le, short)), get_or-map number runs j none 0 short, up i j none le short))
 
--- runs of the jobs at places that are all places, each once, are in the order of the jobs once they are sorted
-pub in_order : (jobs : List Job) (runs sorted : List JobRun) (places : List ℕ) → run_numbers runs ≡ numbers_at jobs places
-    → ((measure : ℕ → ℕ) → sum_by measure places ≡ sum_by measure (places_of jobs)) → IsPermutation runs sorted → IsNonDecreasingBy (λ run. run.job) sorted
+-- runs of the jobs at positions that are all positions, each once, are in the order of the jobs once they are sorted
+pub in_order : (jobs : List Job) (runs sorted : List JobRun) (positions : List ℕ) → run_numbers runs ≡ numbers_at jobs positions
+    → ((measure : ℕ → ℕ) → sum_by measure positions ≡ sum_by measure (positions_of jobs)) → IsPermutation runs sorted → IsNonDecreasingBy (λ run. run.job) sorted
     → IsStrictlyIncreasing (job_numbers jobs) → run_numbers sorted ≡ job_numbers jobs
-in_order jobs runs sorted places numbers all moved up rising =
+in_order jobs runs sorted positions numbers all moved up rising =
     same_list (run_numbers sorted) (job_numbers jobs) (sorted_numbers sorted up) (rising_is_no_fall (job_numbers jobs) rising) (λ measure.
     let number : JobRun → ℕ = λ run. run.job in
-    let at : ℕ → ℕ = λ place. slice_index (job_numbers jobs) place in
+    let at : ℕ → ℕ = λ position. slice_index (job_numbers jobs) position in
     sum_by-IsPermutation measure (run_numbers runs) (run_numbers sorted) (IsPermutation-map number runs sorted moved)
     ∙ (ap (sum_by measure) numbers
-    ∙ (sum_by-map measure at places
-    ∙ (all (λ place. measure (at place))
-    ∙ (sym (sum_by-map measure at (places_of jobs)) ∙ ap (sum_by measure) (numbers_at_all jobs))))))
+    ∙ (sum_by-map measure at positions
+    ∙ (all (λ position. measure (at position))
+    ∙ (sym (sum_by-map measure at (positions_of jobs)) ∙ ap (sum_by measure) (numbers_at_all jobs))))))
 
--- a place that was popped is that of a job
-pub place_has_job : (jobs : List Job) (old new : Tally) (place : ℕ) → old.known ≡ places_of jobs → HasPopped old place new → place < length jobs
-place_has_job jobs old new place known_is popped =
+-- a position that was popped is that of a job
+pub position_has_job : (jobs : List Job) (old new : Tally) (position : ℕ) → old.known ≡ positions_of jobs → HasPopped old position new → position < length jobs
+position_has_job jobs old new position known_is popped =
     let n = length jobs in
     let beyond : ℕ → ℕ = λ z. suc z - n in
-    let none = sum_by-le beyond 0 (places_of jobs) (λ k d few.
+    let none = sum_by-le beyond 0 (positions_of jobs) (λ k d few.
     let short : k < n = omega (arith, few, length-range_with_len 0 n) in
     omega (arith, get_or-range_with_len 0 n k d short, short)) in
-    omega (arith, popped.within beyond, ap (λ (one : Tally). sum_by beyond one.popped) popped.one_more, ap (sum_by beyond) known_is, sum_by_push beyond old.popped place, none)
+    omega (arith, popped.within beyond, ap (λ (one : Tally). sum_by beyond one.popped) popped.one_more, ap (sum_by beyond) known_is, sum_by_push beyond old.popped position, none)
 
--- the number of the job at a place
-pub number_at : (jobs : List Job) (place : ℕ) (job : Job) → place < length jobs → job ≡ get_or jobs place job → job.number ≡ slice_index (job_numbers jobs) place
-number_at jobs place job few is = let number : Job → ℕ = λ one. one.number in ap number is ∙ sym (get_or-map number jobs place job 0 few)
+-- the number of the job at a position
+pub number_at : (jobs : List Job) (position : ℕ) (job : Job) → position < length jobs → job ≡ get_or jobs position job → job.number ≡ slice_index (job_numbers jobs) position
+number_at jobs position job few is = let number : Job → ℕ = λ one. one.number in ap number is ∙ sym (get_or-map number jobs position job 0 few)
 
--- the places below a number, and that number, are those below the next
+-- the positions below a number, and that number, are those below the next
 pub range-push : (n : ℕ) → range_with_len 0 n ++ n ∷ [] ≡ range_with_len 0 (n + 1)
 range-push n = ap (λ xs. xs ++ n ∷ []) (sym (as_map n)) ∙ (sym (map-range_with_len_more (λ z. z) 0 n n (zero-add n)) ∙ as_map (n + 1))
   where

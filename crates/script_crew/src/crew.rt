@@ -3,12 +3,12 @@ ghost use Rattle.std.specs.List.{range_with_len};
 ghost use Rattle.std.specs.List.Sorted.{IsStrictlyIncreasing};
 ghost use Rattle.crossbeam_queue.specs.Passes.{view, IsPassOf};
 ghost use Rattle.script_crew.specs.Runs.{job_numbers, seat_numbers, AreWhole};
-ghost use Rattle.script_crew.specs.Working.{places_of, IsFresh, HasWorked, HaveWorked, HaveRun};
+ghost use Rattle.script_crew.specs.Working.{positions_of, IsFresh, HasWorked, HaveWorked, HaveRun};
 
-use crate::filling::{equip, push_places};
+use crate::filling::{equip, push_positions};
 use crate::job::{Job, JobRun};
 use crate::noted_seat::NotedSeat;
-use crate::place_rule::{PlacePass, PlaceQueue, Sharing};
+use crate::position_rule::{PositionPass, PositionQueue, Sharing};
 use crate::worker::{Worked, Worker, run_popped, work};
 use heap_model::Memory;
 use std::alloc::Global;
@@ -25,15 +25,15 @@ pub struct NotedCrew {
 /// Takes in the workers' passes, and lists their seats, and their runs one worker behind the other.
 fn join_all(
     alloc: Global,
-    queue: &PlaceQueue,
+    queue: &PositionQueue,
     jobs: &[Job],
-    pass: &mut PlacePass,
+    pass: &mut PositionPass,
     done: Vec<Result<Worked, Memory>>,
 ) -> Result<NotedCrew, Memory>
     requires queue { IsPassOf queue.now pass.old }
     requires some { 0 < (view pass.old).shares }
     requires popped { (view pass.old).popped ≡ [] }
-    requires known { (view pass.old).known ≡ places_of jobs.now }
+    requires known { (view pass.old).known ≡ positions_of jobs.now }
     requires worked { HaveWorked queue.now jobs.now done.items }
     ensures queue { IsPassOf queue.now pass.new }
     ensures joined { IfOk result (λ crew. HaveRun jobs.now (view pass.old) (vec_len done) (view pass.new) crew) }
@@ -67,15 +67,15 @@ pub fn run_noted<R: Threads + Wait + Sync>(
     ensures whole { IfOk result (λ crew. AreWhole jobs.now crew.seats.items crew.runs.items) }
     ensures numbered { IfOk result (λ crew. seat_numbers crew.seats.items ≡ seat_numbers seats.items) }
 {
-    let (queue, mut pass) = PlaceQueue::ruled(alloc, jobs.len())?;
+    let (queue, mut pass) = PositionQueue::ruled(alloc, jobs.len())?;
     let queue = &queue;
-    push_places(rt, queue, &mut pass, jobs.len() as u32);
+    push_positions(rt, queue, &mut pass, jobs.len() as u32);
     let workers = equip(alloc, queue, &mut pass, seats)?;
     let done = map_vec(
         rt,
         workers,
         &|worker: Worker| -> Result<Worked, Memory>
-            requires { IsFresh queue.now (places_of jobs.now) worker }
+            requires { IsFresh queue.now (positions_of jobs.now) worker }
             ensures { IfOk result (HasWorked queue.entry.now jobs.entry.now worker.seat.number) }
         { work(rt, alloc, queue, jobs, worker) },
     )?;

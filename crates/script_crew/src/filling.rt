@@ -1,26 +1,26 @@
 ghost use Rattle.std.specs.Prelude.{◌≡◌, ◌-◌, ◌<◌, ◌≤◌, [], map, vec_len, All, IfOk, OnOk};
 ghost use Rattle.std.specs.List.{range_with_len};
 ghost use Rattle.crossbeam_queue.specs.Passes.{view, IsPassOf, ruled_capacity};
-ghost use Rattle.script_crew.specs.Places.{all_shares, tally};
+ghost use Rattle.script_crew.specs.Positions.{all_shares, tally};
 ghost use Rattle.script_crew.specs.Working.{IsFresh};
 
 use crate::noted_seat::NotedSeat;
-use crate::place_rule::{PlacePass, PlaceQueue, Pushing, Sharing};
+use crate::position_rule::{PositionPass, PositionQueue, Pushing, Sharing};
 use crate::worker::Worker;
 use heap_model::Memory;
 use std::alloc::Global;
 use std::sync::Wait;
 
-/// Pushes so many places, from 0 on, into a queue that holds as many.
-pub fn push_places<R: Wait>(rt: &R, queue: &PlaceQueue, pass: &mut PlacePass, count: u32)
+/// Pushes so many positions, from 0 on, into a queue that holds as many.
+pub fn push_positions<R: Wait>(rt: &R, queue: &PositionQueue, pass: &mut PositionPass, count: u32)
     requires queue { IsPassOf queue.now pass.old }
     requires capacity { ruled_capacity queue.now ≡ count }
     requires first { view pass.old ≡ tally all_shares [] [] [] }
     ensures queue { IsPassOf queue.now pass.new }
     ensures pushed { view pass.new ≡ tally all_shares (range_with_len 0 count) [] (range_with_len 0 count) }
 {
-    for place in 0..count {
-        match queue.push_as::<Pushing, R>(rt, pass, place) {
+    for position in 0..count {
+        match queue.push_as::<Pushing, R>(rt, pass, position) {
             Ok(()) => {}
             Err(_) => unreachable!(),
         }
@@ -30,8 +30,8 @@ pub fn push_places<R: Wait>(rt: &R, queue: &PlaceQueue, pass: &mut PlacePass, co
 /// A worker for each seat: each gets a pass, and a share of the one that is handed in.
 pub fn equip(
     alloc: Global,
-    queue: &PlaceQueue,
-    pass: &mut PlacePass,
+    queue: &PositionQueue,
+    pass: &mut PositionPass,
     seats: Vec<NotedSeat>,
 ) -> Result<Vec<Worker>, Memory>
     requires queue { IsPassOf queue.now pass.old }

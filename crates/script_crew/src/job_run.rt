@@ -7,12 +7,12 @@ use crate::noted_seat::NotedSeat;
 use heap_model::limits::LAST_REGISTER;
 use heap_model::{Command, Memory};
 
-/// The position behind the seat's last entry. More than 32 bits can tell are as many as memory can't hold.
-fn position(seat: &NotedSeat) -> Result<u32, Memory>
-    ensures { IfOk result (λ position. position ≡ length seat.now.log.items) }
+/// Where the seat's log ends. More than 32 bits can tell are as many as memory can't hold.
+fn log_end(seat: &NotedSeat) -> Result<u32, Memory>
+    ensures { IfOk result (λ end. end ≡ length seat.now.log.items) }
 {
     match u32::try_from(seat.log.len()) {
-        Ok(position) => Ok(position),
+        Ok(end) => Ok(end),
         Err(_) => Err(Memory),
     }
 }
@@ -47,9 +47,9 @@ pub fn run_job(seat: &mut NotedSeat, job: &Job) -> Result<JobRun, Memory>
     ensures begins { IfOk result (λ run. length seat.old.log.items ≤ run.from) }
 {
     clear_registers(seat)?;
-    let from = position(seat)?;
+    let from = log_end(seat)?;
     make_commands(seat, job.commands.as_slice())?;
-    let to = position(seat)?;
+    let to = log_end(seat)?;
     Ok(JobRun {
         job: job.number,
         seat: seat.number,

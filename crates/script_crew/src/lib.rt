@@ -6,7 +6,7 @@ mod filling;
 mod job;
 mod job_run;
 mod noted_seat;
-mod place_rule;
+mod position_rule;
 #[cfg(test)]
 mod tests;
 mod worker;

@@ -24,12 +24,12 @@ fn do_rise(jobs: &[Job]) -> bool
 /// So many jobs of two commands, whose numbers have gaps.
 fn some_jobs(alloc: Global, count: u32) -> Result<Vec<Job>, Memory> {
     let mut jobs = Vec::new(alloc);
-    for place in 0..count.min(64) {
+    for position in 0..count.min(64) {
         let mut commands = Vec::new(alloc);
-        commands.push(Command::Num { d: 1, n: place })?;
+        commands.push(Command::Num { d: 1, n: position })?;
         commands.push(Command::Set { r: 0, i: 0, v: 1 })?;
         jobs.push(Job {
-            number: 3 * place + 2,
+            number: 3 * position + 2,
             commands,
         })?;
     }

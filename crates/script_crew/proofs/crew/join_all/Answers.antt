@@ -3,10 +3,10 @@ use Rattle.std.specs.Vec.Iter.{into_iter_items}
 use Rattle.std.proofs.lemmas.List.{length-append}
 use Rattle.crossbeam_queue.specs.Passes.{view}
 use Rattle.script_crew.specs.declared.crew.NotedCrew.{NotedCrew}
-use Rattle.script_crew.specs.declared.place_rule.Tally.{Tally}
+use Rattle.script_crew.specs.declared.position_rule.Tally.{Tally}
 use Rattle.script_crew.specs.Working.{HaveRun}
 use Rattle.script_crew.proofs.Joining.{next_has_worked, one_more_joined}
-use Rattle.script_crew.proofs.PlaceMoves.{keeps-merge}
+use Rattle.script_crew.proofs.PassMoves.{keeps-merge}
 use Rattle.script_crew.proofs.crew.join_all.Goals as goal
 
 pub absorb-requires-clause-rule : goal.absorb-requires-clause-rule

@@ -8,13 +8,13 @@ use Rattle.heap_model.specs.declared.fault.Memory.{Memory}
 use Rattle.crossbeam_queue.specs.Passes.{view}
 use Rattle.script_crew.specs.declared.job.JobRun.{JobRun}
 use Rattle.script_crew.specs.declared.noted_seat.NotedSeat.{NotedSeat}
-use Rattle.script_crew.specs.declared.place_rule.Tally.{Tally}
+use Rattle.script_crew.specs.declared.position_rule.Tally.{Tally}
 use Rattle.script_crew.specs.declared.worker.Worked.{Worked}
 use Rattle.script_crew.specs.declared.worker.Worker.{Worker}
-use Rattle.script_crew.specs.Places.{all_shares}
+use Rattle.script_crew.specs.Positions.{all_shares}
 use Rattle.script_crew.specs.Working.{HasWorked}
 use Rattle.script_crew.proofs.Joining.{worker_number, numbers_stay, runs_are_whole}
-use Rattle.script_crew.proofs.PlaceMoves.{all_popped}
+use Rattle.script_crew.proofs.PassMoves.{all_popped}
 use Rattle.script_crew.proofs.crew.run_noted.Goals as goal
 
 pub join_all-requires-clause-worked : goal.join_all-requires-clause-worked
@@ -46,11 +46,11 @@ returns-clause-whole g c =
     let seats = c.args.seats.items in
     let joined : vec_len c.in_ok-done.done ≡ vec_len c.args.seats = c.in_ok-done.ensures.len ∙ (c.in_ok-workers.workers.ok.0 ∙ (as_many c.in_ok-workers.workers.items seats c.in_ok-workers.ensures.seats ∙ sym c.args.seats.ok.0)) in
     let every : (view c.run_popped.new.pass).shares ≡ all_shares =
-    omega (arith, ap shares ran.popped, ap shares had.popped, ap shares c.in_ok-workers.ensures.rest, ap shares c.push_places.ensures.pushed, joined, c.requires.seats) in
+    omega (arith, ap shares ran.popped, ap shares had.popped, ap shares c.in_ok-workers.ensures.rest, ap shares c.push_positions.ensures.pushed, joined, c.requires.seats) in
     let some : 0 < length crew.seats.items = omega (arith, had.count, joined, c.requires.seat) in
     let moved = subst (λ runs. IsPermutation runs c.sort_unstable_by_key.new.self.items) c.in_ok-append.ensures.items c.sort_unstable_by_key.ensures.permutation in
     runs_are_whole c.args.jobs.now (view c.equip.new.pass) (view c.join_all.new.pass) (view c.run_popped.new.pass) _ crew _ c.run_popped.new.seat c.in_ok-rest.rest.items c.sort_unstable_by_key.new.self.items
-    (ap pushed c.in_ok-workers.ensures.rest ∙ ap pushed c.push_places.ensures.pushed) had some c.index_mut.ensures.value ran (all_popped (view c.run_popped.new.pass) c.in_ok-rest.ensures.empty every) moved
+    (ap pushed c.in_ok-workers.ensures.rest ∙ ap pushed c.push_positions.ensures.pushed) had some c.index_mut.ensures.value ran (all_popped (view c.run_popped.new.pass) c.in_ok-rest.ensures.empty every) moved
     (IsNonDecreasingBy-from_sort_by_key (λ (run : JobRun). run.job) _ c.sort_unstable_by_key.ensures.sorted (λ a r q k. search rules)) c.requires.rising
 
 pub returns-clause-numbered : goal.returns-clause-numbered

@@ -5,11 +5,11 @@ use Rattle.std.proofs.lemmas.List.{length-append, map-append}
 use Rattle.std.proofs.lemmas.List.Elements.{All-push}
 use Rattle.crossbeam_queue.specs.Passes.{view}
 use Rattle.script_crew.specs.declared.noted_seat.NotedSeat.{NotedSeat}
-use Rattle.script_crew.specs.declared.place_rule.Tally.{Tally}
+use Rattle.script_crew.specs.declared.position_rule.Tally.{Tally}
 use Rattle.script_crew.specs.declared.worker.Worker.{Worker}
-use Rattle.script_crew.specs.Places.{tally}
+use Rattle.script_crew.specs.Positions.{tally}
 use Rattle.script_crew.specs.Working.{IsFresh}
-use Rattle.script_crew.proofs.PlaceMoves.{keeps-fork}
+use Rattle.script_crew.proofs.PassMoves.{keeps-fork}
 use Rattle.script_crew.proofs.filling.equip.Goals as goal
 
 pub another-own-requires-clause-rule : goal.another-own-requires-clause-rule

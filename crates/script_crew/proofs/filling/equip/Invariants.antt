@@ -2,7 +2,7 @@ use Rattle.std.proofs.Common.{◌≡◌, ◌+◌, ◌-◌, ◌++◌, length, map
 use Rattle.std.specs.Prelude.{All}
 use Rattle.std.specs.Vec.Iter.{into_iter_items}
 use Rattle.crossbeam_queue.specs.Passes.{view, IsPassOf}
-use Rattle.script_crew.specs.Places.{tally}
+use Rattle.script_crew.specs.Positions.{tally}
 use Rattle.script_crew.specs.Working.{IsFresh}
 use Rattle.script_crew.proofs.filling.equip.Given as goal
 

@@ -1,22 +1,22 @@
--- Each place that was pushed is in the queue, or with the one pass that popped it.
+-- Each position that was pushed is in the queue, or with the one pass that popped it.
 use Rattle.std.specs.Prelude.{◌≡◌, ℕ, ◌+◌, ◌<◌, ◌≤◌, List, [], ◌∷◌, ◌++◌, sum_by}
 use mathlib.Core.Option.{some}
 use lib.ListN.{get_elem?}
-use Rattle.script_crew.specs.declared.place_rule.Tally.{Tally}
+use Rattle.script_crew.specs.declared.position_rule.Tally.{Tally}
 
 -- the shares that there are: one for each seat that a heap may have, and one for the caller
 abbrev pub all_shares : ℕ
 all_shares = 17
 
--- the tally of a pass with so many shares, which has pushed and popped these places, where those were pushed in all
+-- the tally of a pass with so many shares, which has pushed and popped these positions, where those were pushed in all
 abbrev pub tally : ℕ → List ℕ → List ℕ → List ℕ → Tally
 tally shares pushed popped known = record { shares = shares; pushed = pushed; popped = popped; known = known }
 
--- what all passes have pushed, by a measure of places
+-- what all passes have pushed, by a measure of positions
 abbrev pub pushed_by_all : (ℕ → ℕ) → List Tally → ℕ
 pushed_by_all measure all = sum_by (λ one. sum_by measure one.pushed) all
 
--- what all passes have popped, by a measure of places
+-- what all passes have popped, by a measure of positions
 abbrev pub popped_by_all : (ℕ → ℕ) → List Tally → ℕ
 popped_by_all measure all = sum_by (λ one. sum_by measure one.popped) all
 
@@ -26,18 +26,18 @@ pub record IsSound (all : List Tally) (one : Tally) : Type 0 where
   pub known : 0 < one.shares → (measure : ℕ → ℕ) → sum_by measure one.known ≡ pushed_by_all measure all
 
 -- by every measure, what was pushed is what was popped and what the queue holds
-pub record KeepsPlaces (items : List ℕ) (all : List Tally) : Type 0 where
+pub record KeepsPositions (items : List ℕ) (all : List Tally) : Type 0 where
   pub shares : sum_by (λ one. one.shares) all ≡ all_shares
   pub balanced : (measure : ℕ → ℕ) → pushed_by_all measure all ≡ popped_by_all measure all + sum_by measure items
   pub sound : (port : ℕ) (one : Tally) → get_elem? all port ≡ some one → IsSound all one
 
--- the pass has pushed one place more
+-- the pass has pushed one position more
 abbrev pub HasPushed : Tally → ℕ → Tally → Type 0
-HasPushed old place new = new ≡ tally old.shares (old.pushed ++ place ∷ []) old.popped (old.known ++ place ∷ [])
+HasPushed old position new = new ≡ tally old.shares (old.pushed ++ position ∷ []) old.popped (old.known ++ position ∷ [])
 
--- the pass has popped one place more, and by no measure more than was pushed in all
-pub record HasPopped (old : Tally) (place : ℕ) (new : Tally) : Type 0 where
-  pub one_more : new ≡ tally old.shares old.pushed (old.popped ++ place ∷ []) old.known
+-- the pass has popped one position more, and by no measure more than was pushed in all
+pub record HasPopped (old : Tally) (position : ℕ) (new : Tally) : Type 0 where
+  pub one_more : new ≡ tally old.shares old.pushed (old.popped ++ position ∷ []) old.known
   pub within : (measure : ℕ → ℕ) → sum_by measure new.popped ≤ sum_by measure old.known
 
 -- a pass with every share has pushed what it has popped and what the queue holds

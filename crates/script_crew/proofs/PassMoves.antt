@@ -7,8 +7,8 @@ use mathlib.Core.Option.{some, some-ne-none}
 use lib.ListN.{get_elem?}
 use Rattle.crossbeam_queue.specs.Fifo.{Pushes, Pops, Forks, Merges, Learns, Held}
 use Rattle.crossbeam_queue.proofs.Lists.{at_set, at_snoc}
-use Rattle.script_crew.specs.declared.place_rule.Tally.{Tally}
-use Rattle.script_crew.specs.Places.{all_shares, tally, pushed_by_all, popped_by_all, IsSound, KeepsPlaces, HasPushed, HasPopped, Settles}
+use Rattle.script_crew.specs.declared.position_rule.Tally.{Tally}
+use Rattle.script_crew.specs.Positions.{all_shares, tally, pushed_by_all, popped_by_all, IsSound, KeepsPositions, HasPushed, HasPopped, Settles}
 use Rattle.script_crew.proofs.Sums.{sum_by-set_at, at-le-sum_by, pair-le-sum_by, sum_by-lone, sum_by-one}
 
 -- each of the views has this
@@ -36,7 +36,7 @@ popped_after : (measure : ℕ → ℕ) (all : List Tally) (port : ℕ) (old new 
 popped_after measure all port old new at = sum_by-set_at (λ one. sum_by measure one.popped) all port old new at
 
 -- where one view's change moves as much as the queue's, all is balanced behind it
-balanced_after : (items later : List ℕ) (all : List Tally) (port : ℕ) (old new : Tally) → get_elem? all port ≡ some old → KeepsPlaces items all
+balanced_after : (items later : List ℕ) (all : List Tally) (port : ℕ) (old new : Tally) → get_elem? all port ≡ some old → KeepsPositions items all
     → ((measure : ℕ → ℕ) → sum_by measure new.pushed + sum_by measure old.popped + sum_by measure items ≡ sum_by measure old.pushed + sum_by measure new.popped + sum_by measure later)
     → (measure : ℕ → ℕ) → pushed_by_all measure (set all port new) ≡ popped_by_all measure (set all port new) + sum_by measure later
 balanced_after items later all port old new at kept moved measure = omega (arith, pushed_after measure all port old new at, popped_after measure all port old new at, kept.balanced measure, moved measure)
@@ -57,13 +57,13 @@ not_idle : (one : Tally) → 0 < one.shares → one.shares ≡ 0 → (one.pushed
 not_idle one share none = absurd (omega (arith, share, none))
 
 -- where one pass has every share, no other has any
-others_none : (items : List ℕ) (all : List Tally) (port : ℕ) (one : Tally) → KeepsPlaces items all → get_elem? all port ≡ some one → one.shares ≡ all_shares
+others_none : (items : List ℕ) (all : List Tally) (port : ℕ) (one : Tally) → KeepsPositions items all → get_elem? all port ≡ some one → one.shares ≡ all_shares
     → (other : ℕ) (two : Tally) → get_elem? all other ≡ some two → other ≢ port → two.shares ≡ 0
 others_none items all port one kept at every other two there apart =
     let both = pair-le-sum_by (λ x. x.shares) all port other one two at there apart in
     omega (arith, both, kept.shares, every)
 
-pub settles : (port : ℕ) (one : Tally) → Learns KeepsPlaces port one (Settles one)
+pub settles : (port : ℕ) (one : Tally) → Learns KeepsPositions port one (Settles one)
 settles port one items all kept at every measure =
     let none = others_none items all port one kept at every in
     let idle = λ (other : ℕ) (two : Tally) (there : get_elem? all other ≡ some two) (apart : other ≢ port). (kept.sound other two there).idle (none other two there apart) in
@@ -71,15 +71,15 @@ settles port one items all kept at every measure =
     let popped = sum_by-lone (λ x. sum_by measure x.popped) all port one at (λ other two there apart. ap (sum_by measure) (idle other two there apart).1) in
     omega (arith, pushed, popped, kept.balanced measure)
 
-pub keeps-push : (capacity port : ℕ) (one : Tally) (place : ℕ) → one.shares ≡ all_shares → Pushes KeepsPlaces capacity port one place (HasPushed one place)
-keeps-push capacity port one place every items all room kept at =
-    let new = tally one.shares (one.pushed ++ place ∷ []) one.popped (one.known ++ place ∷ []) in
+pub keeps-push : (capacity port : ℕ) (one : Tally) (position : ℕ) → one.shares ≡ all_shares → Pushes KeepsPositions capacity port one position (HasPushed one position)
+keeps-push capacity port one position every items all room kept at =
+    let new = tally one.shares (one.pushed ++ position ∷ []) one.popped (one.known ++ position ∷ []) in
     let later = set all port new in
     let share : 0 < one.shares = omega (arith, every) in (
       new,
       record {
         shares = omega (arith, shares_after all port one new at, kept.shares);
-        balanced = balanced_after items (items ++ place ∷ []) all port one new at kept (λ measure. omega (arith, sum_by_push measure one.pushed place, sum_by_push measure items place));
+        balanced = balanced_after items (items ++ position ∷ []) all port one new at kept (λ measure. omega (arith, sum_by_push measure one.pushed position, sum_by_push measure items position));
         sound = each-set (IsSound later) all port new
             (record {
               idle = not_idle new share;
@@ -87,8 +87,8 @@ keeps-push capacity port one place every items all room kept at =
                 arith,
                 pushed_after measure all port one new at,
                 (kept.sound port one at).known share measure,
-                sum_by_push measure one.pushed place,
-                sum_by_push measure one.known place,
+                sum_by_push measure one.pushed position,
+                sum_by_push measure one.known position,
               );
             })
             (λ other two apart there. record {
@@ -99,15 +99,15 @@ keeps-push capacity port one place every items all room kept at =
       refl,
     )
 
-pub keeps-pop : (port : ℕ) (one : Tally) → 0 < one.shares → Pops KeepsPlaces port one (HasPopped one)
-keeps-pop port one share place items all kept at =
-    let new = tally one.shares one.pushed (one.popped ++ place ∷ []) one.known in
+pub keeps-pop : (port : ℕ) (one : Tally) → 0 < one.shares → Pops KeepsPositions port one (HasPopped one)
+keeps-pop port one share position items all kept at =
+    let new = tally one.shares one.pushed (one.popped ++ position ∷ []) one.known in
     let later = set all port new in
     let same : (measure : ℕ → ℕ) → pushed_by_all measure later ≡ pushed_by_all measure all = λ measure. omega (arith, pushed_after measure all port one new at) in (
       new,
       record {
         shares = omega (arith, shares_after all port one new at, kept.shares);
-        balanced = balanced_after (place ∷ items) items all port one new at kept (λ measure. omega (arith, sum_by-cons measure place items, sum_by_push measure one.popped place));
+        balanced = balanced_after (position ∷ items) items all port one new at kept (λ measure. omega (arith, sum_by-cons measure position items, sum_by_push measure one.popped position));
         sound = each-set (IsSound later) all port new (stays_sound all later same one new refl (not_idle new share) (λ _. share) (kept.sound port one at))
             (λ other two apart there. itself_sound all later same two (kept.sound other two there));
       },
@@ -118,14 +118,14 @@ keeps-pop port one share place items all kept at =
           (kept.sound port one at).known share measure,
           kept.balanced measure,
           at-le-sum_by (λ x. sum_by measure x.popped) all port one at,
-          sum_by-cons measure place items,
-          sum_by_push measure one.popped place,
+          sum_by-cons measure position items,
+          sum_by_push measure one.popped position,
         );
       },
     )
 
 pub keeps-fork : (port : ℕ) (one : Tally) → 1 < one.shares
-    → Forks KeepsPlaces port one (tally (one.shares - 1) one.pushed one.popped one.known) (tally 1 [] [] one.known)
+    → Forks KeepsPositions port one (tally (one.shares - 1) one.pushed one.popped one.known) (tally 1 [] [] one.known)
 keeps-fork port one more items all kept at =
     let left = tally (one.shares - 1) one.pushed one.popped one.known in
     let right = tally 1 [] [] one.known in
@@ -151,7 +151,7 @@ keeps-fork port one more items all kept at =
     }
 
 pub keeps-merge : (port : ℕ) (one : Tally) (other : ℕ) (two : Tally) → 0 < one.shares
-    → Merges KeepsPlaces port one other two (tally (one.shares + two.shares) (one.pushed ++ two.pushed) (one.popped ++ two.popped) one.known) (tally 0 [] [] [])
+    → Merges KeepsPositions port one other two (tally (one.shares + two.shares) (one.pushed ++ two.pushed) (one.popped ++ two.popped) one.known) (tally 0 [] [] [])
 keeps-merge port one other two share items all kept at apart there =
     let both = tally (one.shares + two.shares) (one.pushed ++ two.pushed) (one.popped ++ two.popped) one.known in
     let spent = tally 0 [] [] [] in
@@ -177,7 +177,7 @@ keeps-merge port one other two share items all kept at apart there =
           (λ i y _ at_i. itself_sound all later same y (kept.sound i y at_i)) j x here);
     }
 
-pub keeps-first : KeepsPlaces [] (tally all_shares [] [] [] ∷ [])
+pub keeps-first : KeepsPositions [] (tally all_shares [] [] [] ∷ [])
 keeps-first = record { shares = refl; balanced = λ measure. refl; sound = each-push (IsSound first) [] (tally all_shares [] [] []) first_sound (λ port one at. absurd (some-ne-none one (sym at))) }
   where
     first : List Tally
@@ -186,7 +186,7 @@ keeps-first = record { shares = refl; balanced = λ measure. refl; sound = each-
     first_sound : IsSound first (tally all_shares [] [] [])
     first_sound = record { idle = λ _. (refl, refl); known = λ _ measure. refl }
 
--- a queue that is full of what the pass with every share has pushed has no room for fewer places than it holds
+-- a queue that is full of what the pass with every share has pushed has no room for fewer positions than it holds
 pub never_full : (capacity : ℕ) (one : Tally) → Held capacity (Settles one) → one.shares ≡ all_shares → one.popped ≡ [] → length one.pushed < capacity → ⊥
 never_full capacity one held every none few =
     let count : ℕ → ℕ = λ _. 1 in

@@ -2,7 +2,7 @@ use crossbeam_queue::protocol::{Join, Lesson, Outcome, Protocol, Split};
 use crossbeam_queue::{Pass, RuledArrayQueue};
 use std::collections::LinkedList;
 
-/// What a pass knows: how many of the shares it has, which places it has pushed and popped, and which were pushed in all. No value of this type is made.
+/// What a pass knows: how many of the shares it has, which positions it has pushed and popped, and which were pushed in all. No value of this type is made.
 pub struct Tally {
     pub shares: u64,
     pub pushed: LinkedList<u32>,
@@ -10,14 +10,14 @@ pub struct Tally {
     pub known: LinkedList<u32>,
 }
 
-/// The rule that no place is lost, and none is popped twice.
-pub struct PlaceRule;
+/// The rule that no position is lost, and none is popped twice.
+pub struct PositionRule;
 
-impl Protocol<u32, Tally> for PlaceRule {
+impl Protocol<u32, Tally> for PositionRule {
     ghost use Rattle.std.specs.Prelude.{[]};
-    ghost use Rattle.script_crew.specs.Places.{all_shares, tally, KeepsPlaces};
+    ghost use Rattle.script_crew.specs.Positions.{all_shares, tally, KeepsPositions};
 
-    ghost holds = { KeepsPlaces };
+    ghost holds = { KeepsPositions };
 
     ghost first = { tally all_shares [] [] [] };
 }
@@ -27,7 +27,7 @@ pub struct Sharing;
 
 impl Split<Tally> for Sharing {
     ghost use Rattle.std.specs.Prelude.{◌-◌, []};
-    ghost use Rattle.script_crew.specs.Places.{tally};
+    ghost use Rattle.script_crew.specs.Positions.{tally};
 
     ghost left = { λ one. tally (one.shares - 1) one.pushed one.popped one.known };
 
@@ -36,7 +36,7 @@ impl Split<Tally> for Sharing {
 
 impl Join<Tally> for Sharing {
     ghost use Rattle.std.specs.Prelude.{◌+◌, ◌++◌, []};
-    ghost use Rattle.script_crew.specs.Places.{tally};
+    ghost use Rattle.script_crew.specs.Positions.{tally};
 
     ghost both = { λ one other. tally (one.shares + other.shares) (one.pushed ++ other.pushed) (one.popped ++ other.popped) one.known };
 
@@ -47,13 +47,13 @@ impl Join<Tally> for Sharing {
 pub struct Pushing;
 
 impl Outcome<u32, Tally> for Pushing {
-    ghost use Rattle.script_crew.specs.Places.{HasPushed};
+    ghost use Rattle.script_crew.specs.Positions.{HasPushed};
 
     ghost then = { HasPushed };
 }
 
 impl Lesson<u32, Tally> for Pushing {
-    ghost use Rattle.script_crew.specs.Places.{Settles};
+    ghost use Rattle.script_crew.specs.Positions.{Settles};
 
     ghost fact = { Settles };
 }
@@ -62,19 +62,19 @@ impl Lesson<u32, Tally> for Pushing {
 pub struct Popping;
 
 impl Outcome<u32, Tally> for Popping {
-    ghost use Rattle.script_crew.specs.Places.{HasPopped};
+    ghost use Rattle.script_crew.specs.Positions.{HasPopped};
 
     ghost then = { HasPopped };
 }
 
 impl Lesson<u32, Tally> for Popping {
-    ghost use Rattle.script_crew.specs.Places.{Settles};
+    ghost use Rattle.script_crew.specs.Positions.{Settles};
 
     ghost fact = { Settles };
 }
 
-/// The queue of the places of jobs.
-pub type PlaceQueue = RuledArrayQueue<u32, Tally, PlaceRule>;
+/// The queue of the positions of jobs.
+pub type PositionQueue = RuledArrayQueue<u32, Tally, PositionRule>;
 
 /// What each thread that uses the queue holds.
-pub type PlacePass = Pass<u32, Tally>;
+pub type PositionPass = Pass<u32, Tally>;
