@@ -1,5 +1,5 @@
 -- A play with one line of its script more.
-use Rattle.std.proofs.Common.{Option, ◌≡◌, ◌≢◌, ℕ, ◌+◌, ◌<◌, ◌≤◌, ◌⊎◌, List, [], ◌∷◌, ◌++◌, length, inl, inr, refl, sym, ap, subst, ◌∙◌, append_assoc, arith}
+use Rattle.std.proofs.Common.{◌≡◌, ◌≢◌, ℕ, ◌+◌, ◌<◌, ◌≤◌, ◌⊎◌, List, [], ◌∷◌, ◌++◌, length, inl, inr, refl, sym, ap, subst, ◌∙◌, append_assoc, arith}
 use Rattle.std.proofs.lemmas.Bool.Decides.{eqb_tells}
 use Rattle.std.proofs.lemmas.List.Sums.{fold-append}
 use Rattle.std.proofs.lemmas.List.{get_or-replicate}
@@ -16,9 +16,7 @@ use Rattle.heap_model.specs.graph.Growth.{after_entry, graph_after}
 use Rattle.heap_model.proofs.call_lemmas.SeatGrowth.{call_makes_one_at_most, call_stamps_once_at_most}
 use Rattle.heap_runs.specs.Play.{AreTurns}
 use Rattle.heap_runs.specs.PlayHeap.{PlayState, seat_state_of}
-use Rattle.heap_runs.specs.Playing.{NotesCall, NotesSeatLine, NotesTurns, IsThere, DoesFew, IsPlaying}
-use Rattle.heap_record.specs.Recorded.{claimed_by}
-use Rattle.heap_runs.proofs.Slacking.{pace_adds_slack}
+use Rattle.heap_runs.specs.Playing.{NotesCall, NotesTurns, IsThere, DoesFew, IsPlaying}
 use Rattle.heap_runs.proofs.Serving.{served_turns_add}
 use Rattle.heap_runs.proofs.Told.{graph_stays_by_collect, tells_call}
 
@@ -77,7 +75,7 @@ module _ (counts : EachCallCounts) (others : EachCallSparesOthers) (heap : Heap)
   }
 
 -- turns change no graph
-graph_stays : (g : Graph) (added : List Entry) → AreTurns added → graph_after g added ≡ g
+pub graph_stays : (g : Graph) (added : List Entry) → AreTurns added → graph_after g added ≡ g
 graph_stays g [] turned = refl
 graph_stays g (entries.Said number command reply ∷ added) turned = cc turned.0
 graph_stays g (_ ∷ added) turned = graph_stays g added turned.1
@@ -89,7 +87,7 @@ module _ (old new : PlayState) (added : List Entry) (same_heap : new.heap ≡ ol
       ap (λ h. graph_seat (graph_after (opening h) new.entries) number) same_heap ∙ ap (λ es. graph_seat (graph_after (opening old.heap) es) number) told
       ∙ ap (λ g. graph_seat g number) (fold-append after_entry (opening old.heap) old.entries added ∙ quiet (graph_after (opening old.heap) old.entries))
 
-  plays_more : (heap : Heap) (calls more : ℕ) → calls ≤ more → IsPlaying heap old calls → IsPlaying heap new more
+  pub plays_more : (heap : Heap) (calls more : ℕ) → calls ≤ more → IsPlaying heap old calls → IsPlaying heap new more
   plays_more heap calls more less plays = record {
     of_heap = same_heap ∙ plays.of_heap;
     present = λ number below. ap (λ (seat : GraphSeat). seat.left) (seat_stays number) ∙ plays.present number below;
@@ -110,14 +108,6 @@ is_playing_after_turns heap old new command notes calls plays =
     plays_more old new (adds.added ++ turned) (ap (λ (s : PlayState). s.heap) notes.noted ∙ adds.same_heap)
     (ap (λ (s : PlayState). s.entries) notes.noted ∙ ap (λ es. es ++ turned) adds.told ∙ append_assoc old.entries adds.added turned)
     (λ g. fold-append after_entry g adds.added turned ∙ graph_stays g adds.added adds.turned) heap calls (calls + 1) (omega arith) plays
-
--- after a seat's line
-pub is_playing_after_line : EachCallCounts → EachCallSparesOthers → (asks : Option (ℕ → ℕ)) (heap : Heap) (old new : PlayState) (seat : ℕ) (command : Command) → NotesSeatLine asks old new seat command → (calls : ℕ) → command ≢ Leave
-    → IsPlaying heap old calls → IsPlaying heap new (calls + 1)
-is_playing_after_line counts others asks heap old new seat command notes calls stays plays =
-    let slack = pace_adds_slack asks (claimed_by notes.call.added) notes.now new notes.slack in
-    plays_more notes.now new slack.adds.added slack.adds.same_heap slack.adds.told (λ g. graph_stays g slack.adds.added slack.adds.turned) heap (calls + 1) (calls + 1) (omega arith)
-    (plays_call counts others heap old notes.now seat command notes.call calls stays plays)
 
 -- no line is answered yet
 pub is_playing_at_first : (heap : Heap) (state : PlayState) → state.heap ≡ heap → state.entries ≡ [] → IsPlaying heap state 0

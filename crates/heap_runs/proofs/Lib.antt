@@ -21,6 +21,8 @@ pub mod RunsEnd
 pub mod SeatTells
 pub mod Noting
 pub mod OpenedSeats
+pub mod PressCalls
+pub mod PressPlaying
 pub mod Serving
 pub mod Slacking
 pub mod Standing

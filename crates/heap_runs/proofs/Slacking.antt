@@ -5,8 +5,10 @@ use Rattle.heap_model.specs.declared.calls.collector_calls.Turn.{Turn}
 use Rattle.heap_model.specs.declared.command.Command.{Command}
 use Rattle.heap_record.specs.Recorded.{claimed_by}
 use Rattle.slack_pace.specs.Slack as slack
+use Rattle.heap_runs.specs.declared.playing.making.Allocating.{Allocating}
 use Rattle.heap_runs.specs.PlayHeap.{PlayState, collector_state_of}
-use Rattle.heap_runs.specs.Playing.{NotesCall, NotesSlack, NotesPace, NotesSeatLine}
+use Rattle.heap_runs.specs.Pressed.{MakesCommand}
+use Rattle.heap_runs.specs.Playing.{NotesCommand, NotesSlack, NotesPace, NotesSeatLine}
 use Rattle.heap_runs.specs.Turning.{AddsTurns}
 use Rattle.heap_runs.proofs.TurnFacts.{turns_none}
 
@@ -46,15 +48,15 @@ pub pace_adds_slack : (asks : Option (ℕ → ℕ)) (claimed : ℕ) (old new : P
 pace_adds_slack None claimed old new none = record { adds = turns_none old new (ap (λ (s : PlayState). s.heap) none) (ap (λ (s : PlayState). s.entries) none); none = λ unpaced. refl }
 pace_adds_slack (Some asks) claimed old new notes = record { adds = notes.adds; none = λ unpaced. absurd (cc unpaced) }
 
-module _ (old now : PlayState) (number : ℕ) (command : Command) (call : NotesCall old now number command) where
-  -- a call and no turns
-  pub notes_line_without_turns : NotesSeatLine None old now number command
-  notes_line_without_turns = record { now = now; call = call; slack = refl }
+module _ (way : Allocating) (old now : PlayState) (number : ℕ) (command : Command) (calls : NotesCommand (MakesCommand way) old now number command) where
+  -- the command and no turns
+  pub notes_line_without_turns : NotesSeatLine way None old now number command
+  notes_line_without_turns = record { now = now; calls = calls; slack = refl }
 
-  -- what was claimed by the call
-  pub claimed_is_by_call : (claimed : ℕ) → claimed ≡ claimed_by (drop (length old.entries) now.entries) → claimed ≡ claimed_by call.added
-  claimed_is_by_call claimed is = is ∙ ap claimed_by (ap (drop (length old.entries)) call.told ∙ drop-append_seam old.entries call.added)
+  -- what was claimed for the command
+  pub claimed_is_by_calls : (claimed : ℕ) → claimed ≡ claimed_by (drop (length old.entries) now.entries) → claimed ≡ claimed_by calls.added
+  claimed_is_by_calls claimed is = is ∙ ap claimed_by (ap (drop (length old.entries)) calls.told ∙ drop-append_seam old.entries calls.added)
 
-  -- a call and turns
-  pub notes_line_with_turns : (asks : ℕ → ℕ) (claimed : ℕ) (new : PlayState) → claimed ≡ claimed_by call.added → NotesSlack (asks claimed) now new → NotesSeatLine (Some asks) old new number command
-  notes_line_with_turns asks claimed new is notes = record { now = now; call = call; slack = subst (λ (n : ℕ). NotesSlack (asks n) now new) is notes }
+  -- the command and turns
+  pub notes_line_with_turns : (asks : ℕ → ℕ) (claimed : ℕ) (new : PlayState) → claimed ≡ claimed_by calls.added → NotesSlack (asks claimed) now new → NotesSeatLine way (Some asks) old new number command
+  notes_line_with_turns asks claimed new is notes = record { now = now; calls = calls; slack = subst (λ (n : ℕ). NotesSlack (asks n) now new) is notes }

@@ -1,5 +1,5 @@
 -- A script that was answered and whose seats have left was played.
-use Rattle.std.proofs.Common.{◌≡◌, Bool, true, ℕ, ◌+◌, ◌*◌, ◌<◌, List, [], ◌∷◌, ◌++◌, length, take, drop, Some, refl, sym, ap, subst, ◌∙◌, append_assoc, arith}
+use Rattle.std.proofs.Common.{◌≡◌, true, ℕ, ◌+◌, ◌*◌, ◌<◌, List, [], ◌∷◌, ◌++◌, length, take, drop, Some, refl, sym, ap, subst, ◌∙◌, append_assoc, arith}
 use Rattle.std.specs.List.{flat_map, range_with_len}
 use Rattle.std.proofs.lemmas.List.{take_at, drop_at}
 use Rattle.heap_model.specs.declared.heap.Heap.{Heap}
@@ -12,12 +12,13 @@ use Rattle.heap_model.specs.calls.SeatCalls.{leave_entries}
 use Rattle.core_rule.specs.sweep_exact.SweepLaws.{EachLastCycleEmpties}
 use Rattle.heap_model.specs.account.Space.{fragments_gained, fragments_lost, fragments_used, words_used, words_granted, words_returned}
 use Rattle.script_text.specs.declared.script.Form.TheVariants as forms
+use Rattle.script_text.specs.declared.script.Line.{Line}
 use Rattle.script_text.specs.declared.script.Script.{Script}
 use Rattle.reply_text.specs.declared.history.History.{History}
 use Rattle.reply_text.specs.declared.history.SpaceMark.{SpaceMark}
 use Rattle.log_merge.specs.Legal.{ShowsUse, ShowsCounts}
 use Rattle.core_rule.proofs.parties.LeftStill.{left_stays_left, up_to_last_in_later}
-use Rattle.heap_runs.specs.Play.{StandForLines, IsLastCycle, IsPlay}
+use Rattle.heap_runs.specs.Play.{IsLastCycle, IsPlayThat}
 use Rattle.heap_runs.specs.PlayHeap.{PlayState, IsPlayed}
 use Rattle.heap_runs.specs.Playing.{HaveLeft, NotesLastCycle}
 use Rattle.heap_runs.proofs.Bounds.{returned_within}
@@ -38,11 +39,11 @@ none_used empties heap told turned played gone cycle =
     (omega (arith, ap (fragments_used heap) all, empty.0, played.none_short), omega (arith, ap words_used all, empty.1, returned_within heap (told ++ turned) played.legal))
 
 -- the whole play: the script was answered, the seats have left, and a last cycle was made
-pub script_is_played_whole : EachLastCycleEmpties → (paced : Bool) (script : Script) (middle gone last : PlayState) (entries : List Entry) (mark : SpaceMark) (used : ℕ) (told : History)
-    → StandForLines paced [] script.lines middle.entries → HaveLeft script.heap middle gone script.heap.seats → NotesLastCycle gone last → IsPlayed script.heap last.entries → entries ≡ last.entries
+pub script_is_played_whole : EachLastCycleEmpties → (Answered : List Line → List Entry → Type 0) (script : Script) (middle gone last : PlayState) (entries : List Entry) (mark : SpaceMark) (used : ℕ) (told : History)
+    → Answered script.lines middle.entries → HaveLeft script.heap middle gone script.heap.seats → NotesLastCycle gone last → IsPlayed script.heap last.entries → entries ≡ last.entries
     → mark.before ≡ length middle.entries → ShowsUse script.heap middle.entries mark.used → mark.total ≡ 16 * script.heap.groups → mark.spine + words_returned middle.entries ≡ words_granted middle.entries → mark.budget ≡ script.heap.spine
-    → ShowsUse script.heap last.entries used → told ≡ record { form = forms.Play; heap = script.heap; entries = entries; mark = Some mark; end_used = used } → IsPlay paced script told
-script_is_played_whole empties paced script middle gone last entries mark used told answered left notes played listed before in_use total spine budget at_end is =
+    → ShowsUse script.heap last.entries used → told ≡ record { form = forms.Play; heap = script.heap; entries = entries; mark = Some mark; end_used = used } → IsPlayThat Answered script told
+script_is_played_whole empties Answered script middle gone last entries mark used told answered left notes played listed before in_use total spine budget at_end is =
     let leaving : List Entry = flat_map (λ number. leave_entries number (left.left number)) (range_with_len 0 script.heap.seats) in
     let front = middle.entries in
     let all : entries ≡ front ++ (leaving ++ notes.turned) = listed ∙ notes.told ∙ ap (λ es. es ++ notes.turned) left.leaves ∙ append_assoc front leaving notes.turned in

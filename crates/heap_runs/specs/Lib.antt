@@ -3,6 +3,7 @@ pub mod Turning
 pub mod Growing
 pub mod MachineHeap
 pub mod Play
+pub mod Pressed
 pub mod Playing
 pub mod Collecting
 pub mod Finishing

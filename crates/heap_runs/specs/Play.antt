@@ -112,10 +112,14 @@ StandsForLine paced earlier (lines.Seat number command) told = StandsForCall pac
 StandsForLine paced earlier (lines.Turns command) told = StandsForTurns command told
 
 -- behind the earlier entries there stands what stands for each of these lines, one after another, and nothing else
+abbrev pub StandForEach : (List Entry → Line → List Entry → Type 0) → List Entry → List Line → List Entry → Type 0
+StandForEach Stands earlier [] told = told ≡ []
+StandForEach Stands earlier (line ∷ more) told =
+    (here : List Entry) × (rest : List Entry) × Stands earlier line here × StandForEach Stands (earlier ++ here) more rest × (told ≡ here ++ rest)
+
+-- so they do where each command is made once
 abbrev pub StandForLines : Bool → List Entry → List Line → List Entry → Type 0
-StandForLines paced earlier [] told = told ≡ []
-StandForLines paced earlier (line ∷ more) told =
-    (here : List Entry) × (rest : List Entry) × StandsForLine paced earlier line here × StandForLines paced (earlier ++ here) more rest × (told ≡ here ++ rest)
+StandForLines paced earlier lines told = StandForEach (StandsForLine paced) earlier lines told
 
 -- each seat gives back what it has left over, if anything, and leaves, in the order of their numbers
 abbrev pub AreLeaves : ℕ → List Entry → Type 0
@@ -138,20 +142,24 @@ pub record IsLastCycle (turned : List Entry) : Type 0 where
   pub last : ReachesCycleEnd true whole
   pub both : turned ≡ under_way ++ whole
 
--- the entries before the mark stand for the script's lines, in order and each once, and behind it the seats leave, and then a last cycle is made
-pub record IsParted (paced : Bool) (script : Script) (front behind : List Entry) : Type 0 where
-  pub answered : StandForLines paced [] script.lines front
+-- the entries before the mark answer the script's lines, and behind it the seats leave, and then a last cycle is made
+pub record IsParted (Answered : List Line → List Entry → Type 0) (script : Script) (front behind : List Entry) : Type 0 where
+  pub answered : Answered script.lines front
   pub leaving : List Entry
   pub turned : List Entry
   pub leaves : AreLeaves script.heap.seats leaving
   pub cycle : IsLastCycle turned
   pub behind_is : behind ≡ leaving ++ turned
 
--- the history is a play of the script, with a pace or without one: it is legal and parted by its mark, and at its end no fragment and no spine word is in use
-pub record IsPlay (paced : Bool) (script : Script) (history : History) : Type 0 where
+-- the history is a play that answers the script's lines so: it is legal and parted by its mark, and at its end no fragment and no spine word is in use
+pub record IsPlayThat (Answered : List Line → List Entry → Type 0) (script : Script) (history : History) : Type 0 where
   pub form : history.form ≡ forms.Play
   pub heap : history.heap ≡ script.heap
   pub legal : IsLegalHistory history
   pub none_used : history.end_used ≡ 0
   pub all_returned : words_returned history.entries ≡ words_granted history.entries
-  pub parted : IsSomeAnd history.mark (λ mark. IsParted paced script (take mark.before history.entries) (drop mark.before history.entries))
+  pub parted : IsSomeAnd history.mark (λ mark. IsParted Answered script (take mark.before history.entries) (drop mark.before history.entries))
+
+-- the history is a play of the script, with a pace or without one: its entries stand for the lines, in order and each once
+abbrev pub IsPlay : Bool → Script → History → Type 0
+IsPlay paced script history = IsPlayThat (StandForLines paced []) script history

@@ -15,17 +15,23 @@ use Rattle.heap_model.specs.calls.SeatState.{own_graph_seat}
 use Rattle.script_text.specs.declared.script.Line.{Line}
 use Rattle.script_text.specs.declared.script.Line.TheVariants as lines
 use Rattle.heap_record.specs.Recorded.{claimed_by}
+use Rattle.heap_runs.specs.declared.playing.making.Allocating.{Allocating}
 use Rattle.heap_runs.specs.Play.{ReachesCycleEnd, IsLastCycle}
 use Rattle.heap_runs.specs.PlayHeap.{PlayState, seat_state_of, AnswersCall}
+use Rattle.heap_runs.specs.Pressed.{MakesCommand}
 use Rattle.heap_runs.specs.Turning.{ServesCommand, AddsTurns, TurnsRiseBy}
 use Rattle.slack_pace.specs.Slack.{HasWaited}
 
--- the call was made, and added these entries
-pub record NotesCall (old new : PlayState) (number : ℕ) (command : Command) : Type 0 where
+-- the command was made in this way, which added these entries
+pub record NotesCommand (Answers : PlayState → PlayState → ℕ → Command → Reply → Type 0) (old new : PlayState) (number : ℕ) (command : Command) : Type 0 where
   pub reply : Reply
-  pub answers : AnswersCall old new number command reply
+  pub answers : Answers old new number command reply
   pub added : List Entry
   pub told : new.entries ≡ old.entries ++ added
+
+-- the call was made
+abbrev pub NotesCall : PlayState → PlayState → ℕ → Command → Type 0
+NotesCall old new number command = NotesCommand AnswersCall old new number command
 
 -- the turns that a pace asked for were made, or those up to the first that waited
 pub record NotesSlack (asked : ℕ) (old new : PlayState) : Type 0 where
@@ -40,11 +46,11 @@ abbrev pub NotesPace : Option (ℕ → ℕ) → ℕ → PlayState → PlayState 
 NotesPace None claimed old new = new ≡ old
 NotesPace (Some asks) claimed old new = NotesSlack (asks claimed) old new
 
--- the call was made, and behind it what its pace, if there is one, asked for by what the call claimed
-pub record NotesSeatLine (asks : Option (ℕ → ℕ)) (old new : PlayState) (number : ℕ) (command : Command) : Type 0 where
+-- the command was made in this way, and behind it what its pace, if there is one, asked for by what that claimed
+pub record NotesSeatLine (way : Allocating) (asks : Option (ℕ → ℕ)) (old new : PlayState) (number : ℕ) (command : Command) : Type 0 where
   pub now : PlayState
-  pub call : NotesCall old now number command
-  pub slack : NotesPace asks (claimed_by call.added) now new
+  pub calls : NotesCommand (MakesCommand way) old now number command
+  pub slack : NotesPace asks (claimed_by calls.added) now new
 
 -- the turns were made, and behind their entries it is noted what the command was answered
 pub record NotesTurns (old new : PlayState) (command : TurnCommand) : Type 0 where
@@ -54,14 +60,14 @@ pub record NotesTurns (old new : PlayState) (command : TurnCommand) : Type 0 whe
   pub noted : new ≡ record now { entries = now.entries ++ Turned command reply ∷ [] }
 
 -- the line was answered: a seat's with what a pace asked for, where there is one
-abbrev pub NotesLine : Bool → PlayState → PlayState → Line → Type 0
-NotesLine paced old new (lines.Seat number command) = (asks : Option (ℕ → ℕ)) × (is_some asks ≡ paced) × NotesSeatLine asks old new number command
-NotesLine paced old new (lines.Turns command) = NotesTurns old new command
+abbrev pub NotesLine : Allocating → Bool → PlayState → PlayState → Line → Type 0
+NotesLine way paced old new (lines.Seat number command) = (asks : Option (ℕ → ℕ)) × (is_some asks ≡ paced) × NotesSeatLine way asks old new number command
+NotesLine way paced old new (lines.Turns command) = NotesTurns old new command
 
 -- so were these lines, one after another
-abbrev pub NotesLines : Bool → List Line → PlayState → PlayState → Type 0
-NotesLines paced [] old new = new ≡ old
-NotesLines paced (line ∷ more) old new = (now : PlayState) × NotesLine paced old now line × NotesLines paced more now new
+abbrev pub NotesLines : Allocating → Bool → List Line → PlayState → PlayState → Type 0
+NotesLines way paced [] old new = new ≡ old
+NotesLines way paced (line ∷ more) old new = (now : PlayState) × NotesLine way paced old now line × NotesLines way paced more now new
 
 -- the seat hasn't left
 abbrev pub IsThere : PlayState → ℕ → Type 0

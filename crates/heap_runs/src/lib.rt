@@ -15,7 +15,7 @@ mod workers;
 
 pub use machine_heap::MachineHeap;
 pub use play_heap::PlayHeap;
-pub use playing::play;
+pub use playing::{play, play_pressed};
 pub use role::{Held, HeldName};
 pub use running_seats::{Ran, run_seats, seats_of};
 pub use seat_collect::collect_call;

@@ -1,11 +1,13 @@
 ghost use Rattle.std.specs.Prelude.{◌≡◌, true, [], length, is_some, option_map, IfOk, OnOk};
 ghost use Rattle.script_text.specs.declared.script.Form.TheVariants.{Play};
 ghost use Rattle.script_text.specs.Writing.{IsOfForm};
-ghost use Rattle.heap_runs.specs.Play.{IsPlay, StandForLines};
+ghost use Rattle.heap_runs.specs.Play.{IsPlay, IsPlayThat, StandForEach};
 ghost use Rattle.heap_runs.specs.PlayHeap.{MayCall};
+ghost use Rattle.heap_runs.specs.Pressed.{StandsByWay, IsPressedPlay};
 ghost use Rattle.heap_runs.specs.Playing.{NotesSeatLine, NotesLines, IsPlaying, HaveLeft, AllHaveLeft, NotesLastCycle};
 
 use crate::play_heap::PlayHeap;
+use crate::playing::making::{Allocating, make_command};
 use crate::playing::noting::{claimed_since, note_cycle, note_slack, note_turns};
 use crate::playing::use_count::{in_use, words_in_use};
 use core_rule::law_sweep_exact;
@@ -16,22 +18,24 @@ use reply_text::{History, SpaceMark};
 use script_text::{Form, Line, Script, Sequence};
 use slack_pace::Pace;
 
+mod making;
 mod noting;
 mod use_count;
 
-/// Makes a whole call of the seat, with a pace also the turns that it asks for by what the call claimed.
+/// Makes the seat's command in this way, with a pace also the turns that it asks for by what was claimed.
 fn answer_seat_line<H: PlayHeap + Drop>(
-    mut whole: H,
+    whole: H,
+    way: Allocating,
     seat: u8,
     command: &Command,
     pace: &mut Option<Box<dyn Pace>>,
 ) -> Result<H, Memory>
     requires { MayCall (H.state whole) seat command.now }
-    ensures notes { IfOk result (λ now. NotesSeatLine (option_map (λ pace. asks pace) pace.old) (H.state whole) (H.state now) seat command.now) }
+    ensures notes { IfOk result (λ now. NotesSeatLine way (option_map (λ pace. asks pace) pace.old) (H.state whole) (H.state now) seat command.now) }
     ensures pace { is_some pace.new ≡ is_some pace.old }
 {
     let before = whole.entries().len();
-    whole.call(seat, command)?;
+    let whole = make_command(whole, way, seat, command)?;
     match pace {
         Some(pace) => {
             let claimed = claimed_since(&whole, before);
@@ -45,6 +49,7 @@ fn answer_seat_line<H: PlayHeap + Drop>(
 /// a seat.
 fn answer_lines<H: PlayHeap + Drop>(
     mut whole: H,
+    way: Allocating,
     script: &Script,
     mut pace: Option<Box<dyn Pace>>,
 ) -> Result<H, Memory>
@@ -52,14 +57,14 @@ fn answer_lines<H: PlayHeap + Drop>(
     requires heap { (H.state whole).heap ≡ script.now.heap }
     requires fresh { (H.state whole).entries ≡ [] }
     ensures plays { IfOk result (λ now. IsPlaying script.now.heap (H.state now) (length script.now.lines)) }
-    ensures notes { IfOk result (λ now. NotesLines (is_some pace) script.now.lines (H.state whole) (H.state now)) }
-    ensures answered { IfOk result (λ now. StandForLines (is_some pace) [] script.now.lines (H.state now).entries) }
+    ensures notes { IfOk result (λ now. NotesLines way (is_some pace) script.now.lines (H.state whole) (H.state now)) }
+    ensures answered { IfOk result (λ now. StandForEach (StandsByWay way script.now.heap (is_some pace)) [] script.now.lines (H.state now).entries) }
 {
     seat_laws();
     for line in script.lines.as_slice() {
         match *line {
             Line::Seat { seat, command } => {
-                whole = answer_seat_line(whole, seat, &command, &mut pace)?;
+                whole = answer_seat_line(whole, way, seat, &command, &mut pace)?;
             }
             Line::Turns { command } => note_turns(&mut whole, &command)?,
         }
@@ -91,22 +96,22 @@ fn make_last_cycle<H: PlayHeap>(whole: &mut H) -> Result<(), Memory>
     Ok(())
 }
 
-/// The history of a play of the script on the heap, which is the script's. At its end nothing is in use.
-/// With a pace, the collector makes the turns that it asks for behind each line of a seat.
-pub fn play<H: PlayHeap + Drop>(
+/// Answers the script's lines in this way, lets the seats leave, and makes a last cycle.
+fn play_by<H: PlayHeap + Drop>(
     whole: H,
+    way: Allocating,
     heap: Heap,
     script: &Script,
     pace: Option<Box<dyn Pace>>,
 ) -> Result<History, Memory>
-    requires fresh { (H.state whole).entries ≡ [] }
+    requires form { IsOfForm Play script.now }
     requires whole { (H.state whole).heap ≡ heap }
     requires heap { heap ≡ script.now.heap }
-    requires form { IsOfForm Play script.now }
-    ensures { IfOk result (IsPlay (is_some pace) script.now) }
+    requires fresh { (H.state whole).entries ≡ [] }
+    ensures { IfOk result (IsPlayThat (StandForEach (StandsByWay way script.now.heap (is_some pace)) []) script.now) }
 {
     law_sweep_exact();
-    let mut whole = answer_lines(whole, script, pace)?;
+    let mut whole = answer_lines(whole, way, script, pace)?;
     let mark = SpaceMark {
         before: whole.entries().len(),
         used: in_use(&heap, whole.entries()),
@@ -123,4 +128,37 @@ pub fn play<H: PlayHeap + Drop>(
         entries: Sequence::from_vec(whole.into_entries()),
         mark: Some(mark),
     })
+}
+
+/// The history of a play of the script on the heap, which is the script's. At its end nothing is in use.
+/// With a pace, the collector makes the turns that it asks for behind each line of a seat.
+pub fn play<H: PlayHeap + Drop>(
+    whole: H,
+    heap: Heap,
+    script: &Script,
+    pace: Option<Box<dyn Pace>>,
+) -> Result<History, Memory>
+    requires fresh { (H.state whole).entries ≡ [] }
+    requires whole { (H.state whole).heap ≡ heap }
+    requires heap { heap ≡ script.now.heap }
+    requires form { IsOfForm Play script.now }
+    ensures { IfOk result (IsPlay (is_some pace) script.now) }
+{
+    play_by(whole, Allocating::Once, heap, script, pace)
+}
+
+/// The history of such a play, where a seat whose command is refused for want of space collects and makes it again.
+pub fn play_pressed<W: PlayHeap + Drop>(
+    whole: W,
+    heap: Heap,
+    script: &Script,
+    pace: Option<Box<dyn Pace>>,
+) -> Result<History, Memory>
+    requires whole { (W.state whole).heap ≡ heap }
+    requires heap { heap ≡ script.now.heap }
+    requires fresh { (W.state whole).entries ≡ [] }
+    requires form { IsOfForm Play script.now }
+    ensures { IfOk result (IsPressedPlay (is_some pace) script.now) }
+{
+    play_by(whole, Allocating::Pressed, heap, script, pace)
 }
