@@ -15,6 +15,7 @@ mod growing;
 mod one_table;
 mod orders;
 mod pacing;
+mod pressed;
 mod seat_runs;
 
 /// The script that the text is.
