@@ -15,7 +15,7 @@ use Rattle.form_words.proofs.GivenSettings.{digits_value-decimal, given_patience
 
 -- the play and the run of settings
 abbrev play_by : Settings → Work
-play_by settings = Play settings.pace settings.brief
+play_by settings = Play settings.pace settings.brief settings.press
 
 abbrev run_by : Settings → Work
 run_by settings = Run (unwrap_or settings.pace Steady) settings.locked (unwrap_or settings.patience usual_patience)
@@ -54,7 +54,7 @@ make_by-words start seats lines made =
 pub work_of-asked : (words : List (List ℕ)) (work : Work) → AskFor words work → work_of words ≡ Some work
 work_of-asked words work asked = ap work_of asked.begins ∙ by asked.rest work asked.completes where
   by : (rest : List (List ℕ)) (work : Work) → Completes rest work → work_of (form_word work ∷ rest) ≡ Some work
-  by rest (Play pace brief) gives = ap (λ (s : Settings). Some (play_by s)) (settings_of-given rest _ gives)
+  by rest (Play pace brief press) gives = ap (λ (s : Settings). Some (play_by s)) (settings_of-given rest _ gives)
   by rest (Run pace locked patience) (settings, gives, is) = ap (λ (s : Settings). Some (run_by s)) (settings_of-given rest settings gives) ∙ ap Some (run_by-settings pace locked patience settings is)
   by rest Check none = refl
   by rest (Make start seats lines) (fits, spelled) =
@@ -69,7 +69,7 @@ asked_work_is_one words work other asked asked' =
 
 -- what completes a work has its numbers in their ranges
 pub completed_work_is_in_range : (rest : List (List ℕ)) (work : Work) → Completes rest work → IsWork work
-completed_work_is_in_range rest (Play pace brief) gives = tt
+completed_work_is_in_range rest (Play pace brief press) gives = tt
 completed_work_is_in_range rest Check none = tt
 completed_work_is_in_range rest (Make start seats lines) made = made.0
 completed_work_is_in_range rest (Run pace locked patience) (settings, gives, is) = by settings.patience is.patience_is (given_patience_in_range rest settings gives) where

@@ -3,7 +3,7 @@ use Rattle.std.proofs.Common.{◌≡◌, ℕ, Bool, List, ◌∷◌, Option, Som
 use Rattle.std.specs.Prelude.{codes, IfNone, IfSome}
 use Rattle.form_words.specs.declared.pace.PaceName.{PaceName}
 use Rattle.form_words.specs.declared.work.Work.{Work}
-use Rattle.form_words.specs.declared.work.Work.TheVariants.{Play, Run, Check, Make}
+use Rattle.form_words.specs.declared.work.Work.TheVariants.{Play, Run}
 use Rattle.form_words.specs.Works.{form_word, AskFor, Completes, IsForm, IsWork}
 use Rattle.form_words.proofs.AskedWork.{completed_work_is_in_range, work_of, work_of-asked}
 
@@ -20,8 +20,8 @@ goes_on form rest work other asked told =
 no_form : (form : List ℕ) (words rest : List (List ℕ)) (other : Work) → words ≡ form ∷ rest → work_of (form ∷ rest) ≡ Some other → ¬ Completes rest other → ¬ IsForm words
 no_form form words rest other begins told none (work, asked) = none (goes_on form rest work other (subst (λ ws. AskFor ws work) begins asked) told)
 
-pub none_found_no_play : (words rest : List (List ℕ)) (found : Option Work) → words ≡ codes "play" ∷ rest → IfNone found ((pace : Option PaceName) (brief : Bool) → ¬ Completes rest (Play pace brief)) → IfNone found (¬ IsForm words)
-none_found_no_play words rest None begins none = no_form (codes "play") words rest _ begins refl (none _ _)
+pub none_found_no_play : (words rest : List (List ℕ)) (found : Option Work) → words ≡ codes "play" ∷ rest → IfNone found ((pace : Option PaceName) (brief press : Bool) → ¬ Completes rest (Play pace brief press)) → IfNone found (¬ IsForm words)
+none_found_no_play words rest None begins none = no_form (codes "play") words rest _ begins refl (none _ _ _)
 none_found_no_play words rest (Some work) begins none = tt
 
 pub none_found_no_run : (words rest : List (List ℕ)) (found : Option Work) → words ≡ codes "run" ∷ rest → IfNone found ((pace : PaceName) (locked : Bool) (patience : ℕ) → ¬ Completes rest (Run pace locked patience)) → IfNone found (¬ IsForm words)

@@ -20,22 +20,22 @@ use Rattle.form_words.proofs.SettingForms.{play_finds_settings, run_finds_settin
 use Rattle.form_words.proofs.FoundSettings.{found_is_play, found_is_run}
 use Rattle.form_words.proofs.SettingRows.{number_is_loose}
 
-pub found_play_completes : (words : List Text) (all : Settings) → FindsSettings play_app words all → Completes words (Play all.pace all.brief)
+pub found_play_completes : (words : List Text) (all : Settings) → FindsSettings play_app words all → Completes words (Play all.pace all.brief all.press)
 found_play_completes words all finds =
     let play = found_is_play words all finds in
-    let same : all ≡ record no_settings { pace = all.pace; brief = all.brief } = λ i. record { pace = all.pace; brief = all.brief; locked = play.unlocked i; patience = play.impatient i } in
+    let same : all ≡ record no_settings { pace = all.pace; brief = all.brief; press = all.press } = λ i. record { pace = all.pace; brief = all.brief; press = all.press; locked = play.unlocked i; patience = play.impatient i } in
     subst (GiveSettings no_settings words) same play.gives_all
 
-pub nothing_completes_play : (words : List Text) → ((all : Settings) → ¬ FindsSettings play_app words all) → (pace : Option PaceName) (brief : Bool) → ¬ Completes words (Play pace brief)
-nothing_completes_play words none pace brief gives = none _ (play_finds_settings words (record no_settings { pace = pace; brief = brief }) refl refl tt gives)
+pub nothing_completes_play : (words : List Text) → ((all : Settings) → ¬ FindsSettings play_app words all) → (pace : Option PaceName) (brief press : Bool) → ¬ Completes words (Play pace brief press)
+nothing_completes_play words none pace brief press gives = none _ (play_finds_settings words (record no_settings { pace = pace; brief = brief; press = press }) refl refl tt gives)
 
 pub found_run_completes : (words : List Text) (all : Settings) → FindsSettings run_app words all → Completes words (Run (unwrap_or all.pace Steady) all.locked (unwrap_or all.patience usual_patience))
 found_run_completes words all finds =
     let run = found_is_run words all finds in
-    (all, run.gives_all, record { pace_is = refl; locked_is = refl; patience_is = refl; not_brief = run.whole })
+    (all, run.gives_all, record { pace_is = refl; locked_is = refl; patience_is = refl; not_brief = run.whole; not_pressed = run.unpressed })
 
 pub nothing_completes_run : (words : List Text) → ((all : Settings) → ¬ FindsSettings run_app words all) → (pace : PaceName) (locked : Bool) (patience : ℕ) → ¬ Completes words (Run pace locked patience)
-nothing_completes_run words none pace locked patience (settings, gives, is) = none settings (run_finds_settings words settings is.not_brief (given_patience_in_range words settings gives) gives)
+nothing_completes_run words none pace locked patience (settings, gives, is) = none settings (run_finds_settings words settings is.not_brief is.not_pressed (given_patience_in_range words settings gives) gives)
 
 pub completed_check_has_no_words : (words : List Text) → Takes check_app words → words ≡ []
 completed_check_has_no_words words takes = found_check_has_no_words words takes.apart takes.faultless
@@ -51,7 +51,7 @@ make_completes words (Make start seats lines) takes finds =
     let three = found_make_is_three_words words takes.apart takes.faultless in
     let found = subst (λ rows. FindsMaking rows (Make start seats lines)) three.is finds in
     (found.0, three.are ∙ (λ i. same_text three.start start found.1 i ∷ same_text three.seats seats found.2 i ∷ same_text three.lines lines found.3 i ∷ []))
-make_completes words (Play pace brief) takes finds = absurd finds
+make_completes words (Play pace brief press) takes finds = absurd finds
 make_completes words (Run pace locked patience) takes finds = absurd finds
 make_completes words Check takes finds = absurd finds
 

@@ -9,7 +9,7 @@ use Rattle.std.proofs.lemmas.Fmt.{decimal_is_IsNumeral}
 use Rattle.heap_model.specs.Command.{IsWithin}
 use Rattle.form_words.specs.declared.pace.PaceName.TheVariants.{Steady, Debt}
 use Rattle.form_words.specs.declared.setting.Settings.{Settings}
-use Rattle.form_words.specs.Settings.{Brief, Locked, Pace, Patience, Setting, most_patience, no_settings, with_setting, setting_words, IsKnownSetting, AddSettings, GiveSettings}
+use Rattle.form_words.specs.Settings.{Brief, Locked, Pace, Patience, Press, Setting, most_patience, no_settings, with_setting, setting_words, IsKnownSetting, AddSettings, GiveSettings}
 
 -- the value of a number's digits
 pub digits_value-decimal : (n : ℕ) → n < 2 ^ 64 → digits_value 10 (decimal n) ≡ n
@@ -17,7 +17,7 @@ digits_value-decimal n small = (decimal_is_IsNumeral n small).1
 
 -- each setting that is a word by itself
 abbrev plain_settings : List (List ℕ × Setting)
-plain_settings = (codes "--brief", Brief) ∷ (codes "--locked", Locked) ∷ []
+plain_settings = (codes "--brief", Brief) ∷ (codes "--press", Press) ∷ (codes "--locked", Locked) ∷ []
 
 -- each setting that is a word with a value behind it
 abbrev valued_settings : List ℕ → List (List ℕ × Setting)
@@ -37,6 +37,7 @@ given_by-setting : (setting : Setting) (rest : List (List ℕ)) → IsKnownSetti
 given_by-setting (Pace Steady) rest fits = refl
 given_by-setting (Pace Debt) rest fits = refl
 given_by-setting Brief rest fits = refl
+given_by-setting Press rest fits = refl
 given_by-setting Locked rest fits = refl
 given_by-setting (Patience n) rest fits = ap (λ m. Patience m ∷ given_by rest None) (digits_value-decimal n (omega (arith, fits.1)))
 
@@ -68,5 +69,6 @@ given_patience_in_range words all gives = by no_settings gives.given tt gives.ad
   by before [] within adds = subst (λ (s : Settings). IfSome s.patience (IsWithin 1 most_patience)) (sym adds) within
   by before (Pace name ∷ more) within adds = by (with_setting before (Pace name)) more within adds.2
   by before (Brief ∷ more) within adds = by (with_setting before Brief) more within adds.2
+  by before (Press ∷ more) within adds = by (with_setting before Press) more within adds.2
   by before (Locked ∷ more) within adds = by (with_setting before Locked) more within adds.2
   by before (Patience n ∷ more) within adds = by (with_setting before (Patience n)) more adds.0 adds.2

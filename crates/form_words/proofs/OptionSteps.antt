@@ -8,7 +8,7 @@ use Rattle.std.proofs.lemmas.Slice.Eq.{bytes_eq-Decides}
 use Rattle.form_words.specs.Commands.{bare_app, plain_rule, valued_rule}
 use Rattle.form_words.specs.Joined.{is_joined, is_joined_name}
 use Rattle.clap.specs.Lexer.{has_byte, long_of, short_of}
-use Rattle.clap.specs.Walk.{Held, Row, Rule, Text, Waiting, Walk, idle, option, positional, arg_by_id, arg_by_index, arg_by_long, arg_by_short, at_row, bundle_met, has_row, more_values, plain_word, values_or_missing, settled, subcommand_met, used, walk_from, walked, without, word_met}
+use Rattle.clap.specs.Walk.{Held, Row, Rule, Text, Waiting, Walk, idle, option, positional, arg_by_id, arg_by_index, arg_by_long, arg_by_short, at_row, bundle_met, has_row, more_values, plain_word, values_or_missing, settled, subcommand_met, used, walk_from, walked, with_default, without, word_met}
 use Rattle.clap.specs.Simple.{Shape, built, filled}
 use Rattle.clap.specs.Kinds.{Kinds, or_else}
 use Rattle.clap.specs.Faults.{flags_fault, repeat_fault, settle_fault, turn_fault, word_fault}
@@ -99,6 +99,11 @@ pub data NameCase (c : List Rule) (name : Text) : Type 0 where
   unknown : arg_by_long c name ≡ None → NameCase c name
   plain : arg_by_long c name ≡ Some (plain_built name) → NameCase c name
   valued : arg_by_long c name ≡ Some (valued_built name) → arg_by_id c name ≡ Some (valued_built name) → NameCase c name
+
+-- the rows with the defaults of flags
+abbrev pub with_flags : List Text → List Row → List Row
+with_flags [] rows = rows
+with_flags (flag ∷ flags) rows = with_flags flags (with_default rows (plain_built flag))
 
 abbrev pub held : List Row → Option (Text × List Text) → Held
 held rows pending = record { rows = rows; pending = pending; skip = 0 }

@@ -11,7 +11,7 @@ use Rattle.clap.specs.Walk.{Row, Rule, Text, has_row}
 use Rattle.form_words.specs.Joined.{is_joined}
 use Rattle.form_words.specs.declared.pace.PaceName.TheVariants.{Steady, Debt}
 use Rattle.form_words.specs.declared.setting.Settings.{Settings}
-use Rattle.form_words.specs.Settings.{AddSettings, Brief, IsKnownSetting, Locked, Pace, Patience, Setting, has, no_settings, pace_word, setting_words, with_setting}
+use Rattle.form_words.specs.Settings.{AddSettings, Brief, IsKnownSetting, Locked, Pace, Patience, Press, Setting, has, no_settings, pace_word, setting_words, with_setting}
 use Rattle.form_words.proofs.OptionSteps.{row_of_words}
 use Rattle.form_words.proofs.OptionWalk.{AllSpelled, AreSpelled, Given, Grows, IsLoose, IsOption, given_words}
 
@@ -59,6 +59,7 @@ absent_row_is_none id rows none = by (row_at id rows) (sym (has_row_is_some_row 
 abbrev pub given_of : Setting → Given
 given_of (Pace name) = (codes "pace", Some (pace_word name))
 given_of Brief = (codes "brief", None)
+given_of Press = (codes "press", None)
 given_of Locked = (codes "locked", None)
 given_of (Patience n) = (codes "patience", Some (decimal n))
 
@@ -69,11 +70,12 @@ flag_row flag name = cond flag (Some (row_of_words (name, None))) None
 pub record Shows (all : Settings) (rows : List Row) : Type 0 where
   pub pace : row_at (codes "pace") rows ≡ option_map (λ p. row_of_words (codes "pace", Some (pace_word p))) all.pace
   pub brief : row_at (codes "brief") rows ≡ flag_row all.brief (codes "brief")
+  pub press : row_at (codes "press") rows ≡ flag_row all.press (codes "press")
   pub locked : row_at (codes "locked") rows ≡ flag_row all.locked (codes "locked")
   pub patience : row_at (codes "patience") rows ≡ option_map (λ n. row_of_words (codes "patience", Some (decimal n))) all.patience
 
 pub shows_no_settings : Shows no_settings []
-shows_no_settings = record { pace = refl; brief = refl; locked = refl; patience = refl }
+shows_no_settings = record { pace = refl; brief = refl; press = refl; locked = refl; patience = refl }
 
 no_value_there : {X : Type 0} (value : Option X) → is_some value ≡ false → value ≡ None
 no_value_there None e = refl
@@ -86,6 +88,7 @@ shows_one_setting_more before rows (Pace name) shows new =
     record {
       pace = new_row_is_found (codes "pace") rows _ none refl;
       brief = row_kept_by_other (codes "brief") rows _ refl ∙ shows.brief;
+      press = row_kept_by_other (codes "press") rows _ refl ∙ shows.press;
       locked = row_kept_by_other (codes "locked") rows _ refl ∙ shows.locked;
       patience = row_kept_by_other (codes "patience") rows _ refl ∙ shows.patience;
     }
@@ -94,6 +97,16 @@ shows_one_setting_more before rows Brief shows new =
     record {
       pace = row_kept_by_other (codes "pace") rows _ refl ∙ shows.pace;
       brief = new_row_is_found (codes "brief") rows _ none refl;
+      press = row_kept_by_other (codes "press") rows _ refl ∙ shows.press;
+      locked = row_kept_by_other (codes "locked") rows _ refl ∙ shows.locked;
+      patience = row_kept_by_other (codes "patience") rows _ refl ∙ shows.patience;
+    }
+shows_one_setting_more before rows Press shows new =
+    let none : row_at (codes "press") rows ≡ None = shows.press ∙ ap (λ b. flag_row b (codes "press")) new in
+    record {
+      pace = row_kept_by_other (codes "pace") rows _ refl ∙ shows.pace;
+      brief = row_kept_by_other (codes "brief") rows _ refl ∙ shows.brief;
+      press = new_row_is_found (codes "press") rows _ none refl;
       locked = row_kept_by_other (codes "locked") rows _ refl ∙ shows.locked;
       patience = row_kept_by_other (codes "patience") rows _ refl ∙ shows.patience;
     }
@@ -102,6 +115,7 @@ shows_one_setting_more before rows Locked shows new =
     record {
       pace = row_kept_by_other (codes "pace") rows _ refl ∙ shows.pace;
       brief = row_kept_by_other (codes "brief") rows _ refl ∙ shows.brief;
+      press = row_kept_by_other (codes "press") rows _ refl ∙ shows.press;
       locked = new_row_is_found (codes "locked") rows _ none refl;
       patience = row_kept_by_other (codes "patience") rows _ refl ∙ shows.patience;
     }
@@ -110,6 +124,7 @@ shows_one_setting_more before rows (Patience n) shows new =
     record {
       pace = row_kept_by_other (codes "pace") rows _ refl ∙ shows.pace;
       brief = row_kept_by_other (codes "brief") rows _ refl ∙ shows.brief;
+      press = row_kept_by_other (codes "press") rows _ refl ∙ shows.press;
       locked = row_kept_by_other (codes "locked") rows _ refl ∙ shows.locked;
       patience = new_row_is_found (codes "patience") rows _ none refl;
     }
@@ -133,6 +148,7 @@ spelled : (x : Setting) → IsKnownSetting x → AreSpelled (given_of x)
 spelled (Pace Steady) fits = (record { no_end = refl; named = refl; apart = refl }, record { no_end = refl; no_name = refl; no_letters = refl }, refl)
 spelled (Pace Debt) fits = (record { no_end = refl; named = refl; apart = refl }, record { no_end = refl; no_name = refl; no_letters = refl }, refl)
 spelled Brief fits = record { no_end = refl; named = refl; apart = refl }
+spelled Press fits = record { no_end = refl; named = refl; apart = refl }
 spelled Locked fits = record { no_end = refl; named = refl; apart = refl }
 spelled (Patience n) fits =
     let loose = number_is_loose n (omega (arith, fits.1)) in
@@ -142,24 +158,34 @@ spelled (Patience n) fits =
 has_new : (before : Settings) (x : Setting) → has (with_setting before x) x ≡ true
 has_new before (Pace name) = refl
 has_new before Brief = refl
+has_new before Press = refl
 has_new before Locked = refl
 has_new before (Patience n) = refl
 
 has_more : (before : Settings) (x y : Setting) → has before x ≡ true → has (with_setting before y) x ≡ true
 has_more before (Pace name) (Pace other) is = refl
 has_more before (Pace name) Brief is = is
+has_more before (Pace name) Press is = is
 has_more before (Pace name) Locked is = is
 has_more before (Pace name) (Patience n) is = is
 has_more before Brief (Pace other) is = is
 has_more before Brief Brief is = refl
+has_more before Brief Press is = is
 has_more before Brief Locked is = is
 has_more before Brief (Patience n) is = is
+has_more before Press (Pace other) is = is
+has_more before Press Brief is = is
+has_more before Press Press is = refl
+has_more before Press Locked is = is
+has_more before Press (Patience n) is = is
 has_more before Locked (Pace other) is = is
 has_more before Locked Brief is = is
+has_more before Locked Press is = is
 has_more before Locked Locked is = refl
 has_more before Locked (Patience n) is = is
 has_more before (Patience n) (Pace other) is = is
 has_more before (Patience n) Brief is = is
+has_more before (Patience n) Press is = is
 has_more before (Patience n) Locked is = is
 has_more before (Patience n) (Patience m) is = refl
 
@@ -178,6 +204,7 @@ words_of : (x : Setting) (rest rest' : List Text) → rest ≡ rest' → given_w
 words_of (Pace Steady) rest rest' e = ap (λ ws. codes "--pace" ∷ codes "steady" ∷ ws) e
 words_of (Pace Debt) rest rest' e = ap (λ ws. codes "--pace" ∷ codes "debt" ∷ ws) e
 words_of Brief rest rest' e = ap (λ ws. codes "--brief" ∷ ws) e
+words_of Press rest rest' e = ap (λ ws. codes "--press" ∷ ws) e
 words_of Locked rest rest' e = ap (λ ws. codes "--locked" ∷ ws) e
 words_of (Patience n) rest rest' e = ap (λ ws. codes "--patience" ∷ decimal n ∷ ws) e
 
@@ -187,6 +214,7 @@ none_has id rows none = has_row_is_some_row id rows ∙ ap is_some none
 new_name : (before : Settings) (rows : List Row) (x : Setting) → Shows before rows → has before x ≡ false → has_row (given_of x).0 rows ≡ false
 new_name before rows (Pace name) shows new = none_has (codes "pace") rows (shows.pace ∙ ap (option_map (λ p. row_of_words (codes "pace", Some (pace_word p)))) (no_value_there before.pace new))
 new_name before rows Brief shows new = none_has (codes "brief") rows (shows.brief ∙ ap (λ b. flag_row b (codes "brief")) new)
+new_name before rows Press shows new = none_has (codes "press") rows (shows.press ∙ ap (λ b. flag_row b (codes "press")) new)
 new_name before rows Locked shows new = none_has (codes "locked") rows (shows.locked ∙ ap (λ b. flag_row b (codes "locked")) new)
 new_name before rows (Patience n) shows new = none_has (codes "patience") rows (shows.patience ∙ ap (option_map (λ k. row_of_words (codes "patience", Some (decimal k)))) (no_value_there before.patience new))
 

@@ -10,12 +10,12 @@ use Rattle.heap_model.specs.Command.{IsWithin}
 use Rattle.form_words.specs.declared.pace.PaceName.{PaceName}
 use Rattle.form_words.specs.declared.pace.PaceName.TheVariants.{Steady, Debt}
 use Rattle.form_words.specs.declared.setting.Settings.{Settings}
-use Rattle.form_words.specs.Settings.{AddSettings, Brief, IsKnownSetting, Locked, Pace, Patience, Setting, has, most_patience, pace_word, setting_words, with_setting}
+use Rattle.form_words.specs.Settings.{AddSettings, Brief, IsKnownSetting, Locked, Pace, Patience, Press, Setting, has, most_patience, pace_word, setting_words, with_setting}
 use Rattle.form_words.proofs.OptionSteps.{row_of_words}
 use Rattle.form_words.proofs.OptionWalk.{Given, Grows, IsOption, given_words}
 use Rattle.form_words.proofs.SettingRows.{Shows, flag_row, given_of, has_row_is_some_row, absent_row_is_none, row_at, new_row_is_found, found_row_stays, shows_one_setting_more}
 use Rattle.form_words.proofs.SettingForms.{pace_row_has_word, patience_row_has_decimal}
-use Rattle.form_words.proofs.OptionCases.{OptionCase, is_pace, is_brief, is_locked, is_patience}
+use Rattle.form_words.proofs.OptionCases.{OptionCase, is_pace, is_brief, is_press, is_locked, is_patience}
 
 -- what was found at the end of the settings
 pub record IsTold (all : Settings) (after : List Row) : Type 0 where
@@ -23,6 +23,7 @@ pub record IsTold (all : Settings) (after : List Row) : Type 0 where
   pub patience : first_of (codes "patience") after ≡ option_map decimal all.patience
   pub within : IfSome all.patience (IsWithin 1 most_patience)
   pub brief : has_row (codes "brief") after ≡ all.brief
+  pub press : has_row (codes "press") after ≡ all.press
   pub locked : has_row (codes "locked") after ≡ all.locked
 
 -- a row stays to the end
@@ -66,6 +67,7 @@ setting_of all after x told row (is_patience value e) =
     let there : row_at (codes "patience") after ≡ Some (row_of_words (codes "patience", Some value)) = subst (λ (y : Given). row_at y.0 after ≡ Some (row_of_words y)) e row in
     subst IsSetting (sym e) (patience_setting value all.patience told.within (sym (ap (option_and_then (λ (r : Row). slice_get r.values 0)) there) ∙ told.patience))
 setting_of all after x told row (is_brief e) = record { setting = Brief; is = e; known = tt }
+setting_of all after x told row (is_press e) = record { setting = Press; is = e; known = tt }
 setting_of all after x told row (is_locked e) = record { setting = Locked; is = e; known = tt }
 
 some_shown : {X : Type 0} (f : X → Row) (value : Option X) → is_some (option_map f value) ≡ is_some value
@@ -80,6 +82,7 @@ flag_row_shows_flag false name = refl
 not_given : (before : Settings) (rows : List Row) (x : Setting) → Shows before rows → has_row (given_of x).0 rows ≡ false → has before x ≡ false
 not_given before rows (Pace name) shows none = sym (has_row_is_some_row (codes "pace") rows ∙ ap is_some shows.pace ∙ some_shown _ before.pace) ∙ none
 not_given before rows Brief shows none = sym (has_row_is_some_row (codes "brief") rows ∙ ap is_some shows.brief ∙ flag_row_shows_flag before.brief (codes "brief")) ∙ none
+not_given before rows Press shows none = sym (has_row_is_some_row (codes "press") rows ∙ ap is_some shows.press ∙ flag_row_shows_flag before.press (codes "press")) ∙ none
 not_given before rows Locked shows none = sym (has_row_is_some_row (codes "locked") rows ∙ ap is_some shows.locked ∙ flag_row_shows_flag before.locked (codes "locked")) ∙ none
 not_given before rows (Patience n) shows none = sym (has_row_is_some_row (codes "patience") rows ∙ ap is_some shows.patience ∙ some_shown _ before.patience) ∙ none
 
@@ -113,13 +116,18 @@ same_settings all before after rows e told shows known =
     (sym told.pace ∙ ap (first_of (codes "pace")) e ∙ ap (option_and_then (λ (r : Row). slice_get r.values 0)) shows.pace ∙ pace_row_has_word before.pace) in
     let patience : all.patience ≡ before.patience = same_patience all.patience before.patience told.within known
     (sym told.patience ∙ ap (first_of (codes "patience")) e ∙ ap (option_and_then (λ (r : Row). slice_get r.values 0)) shows.patience ∙ patience_row_has_decimal before.patience) in
-    let brief : all.brief ≡ before.brief = sym told.brief ∙ ap (has_row (codes "brief")) e ∙ has_row_is_some_row (codes "brief") rows ∙ ap is_some shows.brief ∙ flag_row_shows_flag before.brief (codes "brief") in
-    let locked : all.locked ≡ before.locked = sym told.locked ∙ ap (has_row (codes "locked")) e ∙ has_row_is_some_row (codes "locked") rows ∙ ap is_some shows.locked ∙ flag_row_shows_flag before.locked (codes "locked") in
-    λ i. record { pace = pace i; brief = brief i; locked = locked i; patience = patience i }
+    let brief : all.brief ≡ before.brief = same_flag all.brief before.brief (codes "brief") told.brief shows.brief in
+    let press : all.press ≡ before.press = same_flag all.press before.press (codes "press") told.press shows.press in
+    let locked : all.locked ≡ before.locked = same_flag all.locked before.locked (codes "locked") told.locked shows.locked in
+    λ i. record { pace = pace i; brief = brief i; press = press i; locked = locked i; patience = patience i }
+  where
+    same_flag : (flag other : Bool) (id : Text) → has_row id after ≡ flag → row_at id rows ≡ flag_row other id → flag ≡ other
+    same_flag flag other id told shown = sym told ∙ ap (has_row id) e ∙ has_row_is_some_row id rows ∙ ap is_some shown ∙ flag_row_shows_flag other id
 
 known_more : (before : Settings) (x : Setting) → IsKnown before → IsKnownSetting x → IsKnown (with_setting before x)
 known_more before (Pace name) known fits = known
 known_more before Brief known fits = known
+known_more before Press known fits = known
 known_more before Locked known fits = known
 known_more before (Patience n) known fits = fits
 
@@ -127,6 +135,7 @@ words_of_setting : (x : Setting) → given_words (given_of x) ≡ setting_words 
 words_of_setting (Pace Steady) = refl
 words_of_setting (Pace Debt) = refl
 words_of_setting Brief = refl
+words_of_setting Press = refl
 words_of_setting Locked = refl
 words_of_setting (Patience n) = refl
 

@@ -21,7 +21,7 @@ number_rule name = record (new_rule name) { required = true }
 
 -- the command of each form
 abbrev pub play_app : App
-play_app = with_rule (with_rule (bare_app (codes "play")) (valued_rule (codes "pace"))) (plain_rule (codes "brief"))
+play_app = with_rule (with_rule (with_rule (bare_app (codes "play")) (valued_rule (codes "pace"))) (plain_rule (codes "brief"))) (plain_rule (codes "press"))
 
 abbrev pub run_app : App
 run_app = with_rule (with_rule (with_rule (bare_app (codes "run")) (valued_rule (codes "pace"))) (plain_rule (codes "locked"))) (valued_rule (codes "patience"))

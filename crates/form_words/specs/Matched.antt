@@ -36,6 +36,7 @@ pub record HasValues (rows : List Row) (all : Settings) : Type 0 where
 -- and so are the flags
 pub record HasFlags (rows : List Row) (all : Settings) : Type 0 where
   pub brief : IsFlag all.brief (one_of (codes "brief") rows)
+  pub press : IsFlag all.press (one_of (codes "press") rows)
   pub locked : IsFlag all.locked (one_of (codes "locked") rows)
 
 -- the command finds the settings in the words

@@ -10,6 +10,7 @@ use Rattle.form_words.specs.declared.setting.Settings.{Settings}
 pub data Setting : Type 0 where
   Pace : PaceName → Setting
   Brief : Setting
+  Press : Setting
   Locked : Setting
   Patience : ℕ → Setting
 
@@ -26,6 +27,7 @@ pace_word Debt = codes "debt"
 abbrev pub setting_words : Setting → List (List ℕ)
 setting_words (Pace name) = codes "--pace" ∷ pace_word name ∷ []
 setting_words Brief = codes "--brief" ∷ []
+setting_words Press = codes "--press" ∷ []
 setting_words Locked = codes "--locked" ∷ []
 setting_words (Patience n) = codes "--patience" ∷ decimal n ∷ []
 
@@ -36,12 +38,13 @@ IsKnownSetting _ = Unit {0}
 
 -- nothing was given
 abbrev pub no_settings : Settings
-no_settings = record { pace = None; brief = false; locked = false; patience = None }
+no_settings = record { pace = None; brief = false; press = false; locked = false; patience = None }
 
 -- whether a setting of this kind was given
 abbrev pub has : Settings → Setting → Bool
 has settings (Pace name) = is_some settings.pace
 has settings Brief = settings.brief
+has settings Press = settings.press
 has settings Locked = settings.locked
 has settings (Patience n) = is_some settings.patience
 
@@ -49,6 +52,7 @@ has settings (Patience n) = is_some settings.patience
 abbrev pub with_setting : Settings → Setting → Settings
 with_setting settings (Pace name) = record settings { pace = Some name }
 with_setting settings Brief = record settings { brief = true }
+with_setting settings Press = record settings { press = true }
 with_setting settings Locked = record settings { locked = true }
 with_setting settings (Patience n) = record settings { patience = Some n }
 

@@ -12,7 +12,7 @@ use Rattle.form_words.specs.Settings.{no_settings, most_patience, GiveSettings}
 
 -- the word with which a form begins
 abbrev pub form_word : Work → List ℕ
-form_word (Play pace brief) = codes "play"
+form_word (Play pace brief press) = codes "play"
 form_word (Run pace locked patience) = codes "run"
 form_word Check = codes "check"
 form_word (Make start seats lines) = codes "make"
@@ -37,10 +37,11 @@ pub record IsRunSettings (pace : PaceName) (locked : Bool) (patience : ℕ) (set
   pub locked_is : settings.locked ≡ locked
   pub patience_is : patience ≡ unwrap_or settings.patience usual_patience
   pub not_brief : settings.brief ≡ false
+  pub not_pressed : settings.press ≡ false
 
 -- the words behind the form's word say the rest of the work
 abbrev pub Completes : List (List ℕ) → Work → Type 0
-Completes rest (Play pace brief) = GiveSettings no_settings rest (record no_settings { pace = pace; brief = brief })
+Completes rest (Play pace brief press) = GiveSettings no_settings rest (record no_settings { pace = pace; brief = brief; press = press })
 Completes rest (Run pace locked patience) = (settings : Settings) × GiveSettings no_settings rest settings × IsRunSettings pace locked patience settings
 Completes rest Check = rest ≡ []
 Completes rest (Make start seats lines) = MayBeMade start seats lines × (rest ≡ decimal start ∷ decimal seats ∷ decimal lines ∷ [])
@@ -70,7 +71,7 @@ most_history = 16777216
 
 -- the most bytes of an input
 abbrev pub most_bytes : Work → ℕ
-most_bytes (Play pace brief) = most_script
+most_bytes (Play pace brief press) = most_script
 most_bytes (Run pace locked patience) = most_script
 most_bytes Check = most_history
 most_bytes (Make start seats lines) = 0

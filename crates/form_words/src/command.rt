@@ -45,7 +45,8 @@ pub fn play_command<'a>(alloc: Global) -> Result<Command<'a>, AllocError>
 {
     bare_command(alloc, "play")
         .arg(valued_option(alloc, "pace"))?
-        .arg(plain_option(alloc, "brief"))
+        .arg(plain_option(alloc, "brief"))?
+        .arg(plain_option(alloc, "press"))
 }
 
 /// What stands behind the word of a run.

@@ -16,6 +16,7 @@ pub const MOST_PATIENCE: u32 = 1_000_000;
 pub struct Settings {
     pub pace: Option<PaceName>,
     pub brief: bool,
+    pub press: bool,
     pub locked: bool,
     pub patience: Option<u32>,
 }
@@ -54,6 +55,7 @@ impl Settings {
         Some(Settings {
             pace,
             brief: matches.get_flag("brief"),
+            press: matches.get_flag("press"),
             locked: matches.get_flag("locked"),
             patience,
         })

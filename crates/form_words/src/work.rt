@@ -29,10 +29,12 @@ const USUAL_PATIENCE: u32 = 1_000;
 /// What the program does.
 #[derive(Clone, Copy, Debug, PartialEq, Eq)]
 pub enum Work {
-    /// Plays a script, with a pace or with none, and tells the play's history or its brief.
+    /// Plays a script, with a pace or with none, and tells the play's history or its brief. Where it presses, a seat
+    /// collects when a command of it is refused for want of space, and makes that again.
     Play {
         pace: Option<PaceName>,
         brief: bool,
+        press: bool,
     },
     /// Runs a script, each seat on a thread of its own, and tells the run's history.
     Run {
@@ -65,7 +67,7 @@ fn settings_by<'a>(command: Command<'a>, words: &'a [&'a str]) -> Result<Option<
 /// The play that the words behind the form's ask for.
 fn play_of<'a>(alloc: Global, words: &'a [&'a str]) -> Result<Option<Work>, Memory>
     ensures some { IfOk result (λ found. IfSome found (λ work. (form_word work ≡ codes "play") × Completes (map (λ w. w.now) words.entry.now) work)) }
-    ensures none { IfOk result (λ found. IfNone found ((pace : AnOption APaceName) (brief : ABool) → ¬ Completes (map (λ w. w.now) words.entry.now) (works.Play pace brief))) }
+    ensures none { IfOk result (λ found. IfNone found ((pace : AnOption APaceName) (brief press : ABool) → ¬ Completes (map (λ w. w.now) words.entry.now) (works.Play pace brief press))) }
 {
     let command = play_command(alloc)?;
     let Some(settings) = settings_by(command, words)? else {
@@ -74,6 +76,7 @@ fn play_of<'a>(alloc: Global, words: &'a [&'a str]) -> Result<Option<Work>, Memo
     Ok(Some(Work::Play {
         pace: settings.pace,
         brief: settings.brief,
+        press: settings.press,
     }))
 }
 

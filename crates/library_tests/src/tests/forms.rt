@@ -7,7 +7,7 @@ use std::alloc::Global;
 use std::test::Fail;
 
 /// Words that are no form, each with one space between two.
-const NO_FORMS: [&str; 49] = [
+const NO_FORMS: [&str; 51] = [
     "plays",
     "Check",
     "play extra",
@@ -17,6 +17,8 @@ const NO_FORMS: [&str; 49] = [
     "check --pace steady",
     "--brief play",
     "play --brief --brief",
+    "play --press --press",
+    "run --press",
     "play --pace steady --pace steady",
     "play --pace steady --brief --pace steady",
     "play --pace",
@@ -72,15 +74,17 @@ const STEADY: Option<PaceName> = Some(PaceName::Steady);
 
 const DEBT: Option<PaceName> = Some(PaceName::Debt);
 
-/// Words of plays, each with the pace and whether the brief alone is told.
-const PLAYS: [(&str, Option<PaceName>, bool); 7] = [
-    ("play", None, false),
-    ("play --brief", None, true),
-    ("play --pace steady", STEADY, false),
-    ("play --brief --pace steady", STEADY, true),
-    ("play --pace steady --brief", STEADY, true),
-    ("play --pace debt", DEBT, false),
-    ("play --brief --pace debt", DEBT, true),
+/// Words of plays, each with the pace, whether the brief alone is told, and whether seats are pressed.
+const PLAYS: [(&str, Option<PaceName>, bool, bool); 9] = [
+    ("play", None, false, false),
+    ("play --brief", None, true, false),
+    ("play --press", None, false, true),
+    ("play --pace steady", STEADY, false, false),
+    ("play --brief --pace steady", STEADY, true, false),
+    ("play --pace steady --brief", STEADY, true, false),
+    ("play --pace debt", DEBT, false, false),
+    ("play --brief --pace debt", DEBT, true, false),
+    ("play --press --pace debt --brief", DEBT, true, true),
 ];
 
 /// Words of runs, each with the pace, whether it is locked, and its patience.
@@ -132,8 +136,8 @@ fn asks_for_nothing_by_other_words(rt: HostRuntime) -> Result<(), Fail> {
 #[test]
 fn asks_for_the_work_of_a_form(rt: HostRuntime) -> Result<(), Fail> {
     let alloc = rt.alloc();
-    for (line, pace, brief) in PLAYS {
-        let work = Work::Play { pace, brief };
+    for (line, pace, brief, press) in PLAYS {
+        let work = Work::Play { pace, brief, press };
         same(&rt, &asked(alloc, line), &Ok(Some(work)), &line);
         same(&rt, &work.most_bytes(), &Some(1_048_576), &line);
     }
