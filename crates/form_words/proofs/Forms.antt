@@ -3,7 +3,7 @@ use Rattle.std.proofs.Common.{◌≡◌, ℕ, Bool, List, ◌∷◌, Option, Som
 use Rattle.std.specs.Prelude.{codes, IfNone, IfSome}
 use Rattle.form_words.specs.declared.pace.PaceName.{PaceName}
 use Rattle.form_words.specs.declared.work.Work.{Work}
-use Rattle.form_words.specs.declared.work.Work.TheVariants.{Play, Run, Check, Make}
+use Rattle.form_words.specs.declared.work.Work.TheVariants.{Play, Run, Check, Plan, Make}
 use Rattle.form_words.specs.Works.{form_word, AskFor, Completes, IsForm, IsWork}
 use Rattle.form_words.proofs.AskedWork.{completed_work_is_in_range, work_of, work_of-asked}
 
