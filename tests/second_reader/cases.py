@@ -32,9 +32,10 @@ class Case(NamedTuple):
 
 
 def known_cases() -> list[Case]:
-    return [Case("known history", ["check"], text.encode(),
-                 done(b"legal %d\n" % entries) if bad is None else not_legal(NotLegal(bad)))
-            for text, bad, entries in KNOWN]
+    checks = [Case("known history", ["check"], text.encode(),
+                   done(b"legal %d\n" % entries) if bad is None else not_legal(NotLegal(bad)))
+              for text, bad, entries in KNOWN]
+    return checks + [Case("plan of a known history", ["plan"], text.encode()) for text, _, _ in KNOWN]
 
 
 def fixed_cases(seed: str) -> list[Case]:
@@ -122,8 +123,25 @@ def grown_check(random: Random, runs: Runs) -> Case:
     return Case("check of a grown history", ["check"], text_of(grow_history(random, 150).lines()))
 
 
+def play_plan(random: Random, runs: Runs) -> Case:
+    return Case("plan of a play", ["plan"], draw_history(random))
+
+
+def changed_plan(random: Random, runs: Runs) -> Case:
+    return Case("plan of a changed play", ["plan"], changed_history(random, draw_history(random)))
+
+
+def grown_plan(random: Random, runs: Runs) -> Case:
+    return Case("plan of a grown history", ["plan"], text_of(grow_history(random, 150).lines()))
+
+
+def run_plan(random: Random, runs: Runs) -> Case:
+    text = run_history(random, runs)
+    return Case("plan of a run", ["plan"], changed_history(random, text) if random.random() < 0.5 else text)
+
+
 def bytes_of_any_kind(random: Random, runs: Runs) -> Case:
-    return Case("random bytes", [random.choice(("play", "check", "run"))], random_bytes(random))
+    return Case("random bytes", [random.choice(("play", "check", "run", "plan"))], random_bytes(random))
 
 
 # The kinds of drawn cases by the names that `--kind` takes, and how often each is drawn.
@@ -139,6 +157,10 @@ KINDS: dict[str, tuple[int, Callable[[Random, Runs], Case]]] = {
     "run-check": (3, run_check),
     "run-changed": (6, changed_run_check),
     "grown": (14, grown_check),
+    "plan": (5, play_plan),
+    "plan-changed": (4, changed_plan),
+    "plan-grown": (5, grown_plan),
+    "plan-run": (1, run_plan),
     "bytes": (1, bytes_of_any_kind),
 }
 

@@ -2,6 +2,7 @@
 
 from .judge import check
 from .made import MOST_MADE, MOST_START, make
+from .plan import plan
 from .play import answer_play
 from .script import MOST_SEATS, SCRIPT_DIGITS, read_script
 from .texts import LONGEST_SCRIPT, Answer, Refused, done, number_of, refused, text_of, too_long, usage
@@ -52,6 +53,8 @@ def answer_words(words: list[str], text: bytes) -> Answer | None:
     form, rest = (words[0], words[1:]) if words else ("", [])
     if form == "check" and not rest:
         return check(text)
+    if form == "plan" and not rest:
+        return plan(text)
     if form == "make":
         return answer_make(rest)
     if form == "play":

@@ -8,7 +8,7 @@ use Rattle.form_words.specs.declared.pace.PaceName.{PaceName}
 use Rattle.form_words.specs.declared.pace.PaceName.TheVariants.{Steady}
 use Rattle.form_words.specs.declared.setting.Settings.{Settings}
 use Rattle.form_words.specs.declared.work.Work.{Work}
-use Rattle.form_words.specs.declared.work.Work.TheVariants.{Play, Run, Check, Make}
+use Rattle.form_words.specs.declared.work.Work.TheVariants.{Play, Run, Check, Plan, Make}
 use Rattle.form_words.specs.Settings.{most_patience}
 use Rattle.form_words.specs.Works.{form_word, usual_patience, AskFor, Completes, IsRunSettings, IsWork}
 use Rattle.form_words.proofs.GivenSettings.{digits_value-decimal, given_patience_in_range, settings_of, settings_of-given}
@@ -32,6 +32,7 @@ works_by_form rest =
     (codes "play", play_by (settings_of rest))
     ∷ (codes "run", run_by (settings_of rest))
     ∷ (codes "check", Check)
+    ∷ (codes "plan", Plan)
     ∷ (codes "make", make_by rest)
     ∷ []
 
@@ -57,6 +58,7 @@ work_of-asked words work asked = ap work_of asked.begins ∙ by asked.rest work 
   by rest (Play pace brief press) gives = ap (λ (s : Settings). Some (play_by s)) (settings_of-given rest _ gives)
   by rest (Run pace locked patience) (settings, gives, is) = ap (λ (s : Settings). Some (run_by s)) (settings_of-given rest settings gives) ∙ ap Some (run_by-settings pace locked patience settings is)
   by rest Check none = refl
+  by rest Plan none = refl
   by rest (Make start seats lines) (fits, spelled) =
       ap (λ (words : List (List ℕ)). Some (make_by words)) spelled ∙ ap Some (make_by-words start seats lines (fits, refl))
 
@@ -71,6 +73,7 @@ asked_work_is_one words work other asked asked' =
 pub completed_work_is_in_range : (rest : List (List ℕ)) (work : Work) → Completes rest work → IsWork work
 completed_work_is_in_range rest (Play pace brief press) gives = tt
 completed_work_is_in_range rest Check none = tt
+completed_work_is_in_range rest Plan none = tt
 completed_work_is_in_range rest (Make start seats lines) made = made.0
 completed_work_is_in_range rest (Run pace locked patience) (settings, gives, is) = by settings.patience is.patience_is (given_patience_in_range rest settings gives) where
   by : (given : Option ℕ) → patience ≡ unwrap_or given usual_patience → IfSome given (IsWithin 1 most_patience) → IsWithin 1 most_patience patience

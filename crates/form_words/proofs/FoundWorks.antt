@@ -3,19 +3,18 @@ use Rattle.std.proofs.Common.{◌≡◌, ℕ, Bool, true, List, [], ◌∷◌, O
 use Rattle.std.specs.Prelude.{IfSome, IfNone}
 use Rattle.clap.specs.Walk.{Row, Text}
 use Rattle.clap.specs.Simple.{matches_of}
-use Rattle.form_words.specs.Commands.{check_app, make_app, play_app, run_app}
+use Rattle.form_words.specs.Commands.{make_app, play_app, run_app}
 use Rattle.form_words.specs.Joined.{are_apart}
 use Rattle.form_words.specs.Matched.{FindsMaking, FindsSettings, Takes}
 use Rattle.form_words.specs.declared.pace.PaceName.{PaceName}
 use Rattle.form_words.specs.declared.pace.PaceName.TheVariants.{Steady}
 use Rattle.form_words.specs.declared.setting.Settings.{Settings}
 use Rattle.form_words.specs.declared.work.Work.{Work}
-use Rattle.form_words.specs.declared.work.Work.TheVariants.{Play, Run, Check, Make}
+use Rattle.form_words.specs.declared.work.Work.TheVariants.{Play, Run, Check, Plan, Make}
 use Rattle.form_words.specs.Settings.{GiveSettings, no_settings}
 use Rattle.form_words.specs.Works.{Completes, form_word, usual_patience}
 use Rattle.form_words.proofs.GivenSettings.{given_patience_in_range}
 use Rattle.form_words.proofs.MakingWords.{found_make_is_three_words, three_words_are_taken}
-use Rattle.form_words.proofs.OptionForms.{found_check_has_no_words, check_without_words_taken}
 use Rattle.form_words.proofs.SettingForms.{play_finds_settings, run_finds_settings}
 use Rattle.form_words.proofs.FoundSettings.{found_is_play, found_is_run}
 use Rattle.form_words.proofs.SettingRows.{number_is_loose}
@@ -37,12 +36,6 @@ found_run_completes words all finds =
 pub nothing_completes_run : (words : List Text) → ((all : Settings) → ¬ FindsSettings run_app words all) → (pace : PaceName) (locked : Bool) (patience : ℕ) → ¬ Completes words (Run pace locked patience)
 nothing_completes_run words none pace locked patience (settings, gives, is) = none settings (run_finds_settings words settings is.not_brief is.not_pressed (given_patience_in_range words settings gives) gives)
 
-pub completed_check_has_no_words : (words : List Text) → Takes check_app words → words ≡ []
-completed_check_has_no_words words takes = found_check_has_no_words words takes.apart takes.faultless
-
-pub unchecked_words_are_some : (words : List Text) → ¬ Takes check_app words → ¬ (words ≡ [])
-unchecked_words_are_some words none is = none (subst (Takes check_app) (sym is) (record { apart = refl; faultless = check_without_words_taken }))
-
 same_text : (a : Text) (n : ℕ) → Some a ≡ Some (decimal n) → a ≡ decimal n
 same_text a n e = cc
 
@@ -54,6 +47,7 @@ make_completes words (Make start seats lines) takes finds =
 make_completes words (Play pace brief press) takes finds = absurd finds
 make_completes words (Run pace locked patience) takes finds = absurd finds
 make_completes words Check takes finds = absurd finds
+make_completes words Plan takes finds = absurd finds
 
 -- a making that words complete is found
 pub record IsMakingFound (words : List Text) (work : Work) : Type 0 where

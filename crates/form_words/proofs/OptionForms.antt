@@ -7,7 +7,7 @@ use Rattle.clap.specs.Walk.{Held, Row, Rule, Text, arg_by_index, arg_by_short, d
 use Rattle.clap.specs.Simple.{App, built, entered, matches_of}
 use Rattle.clap.specs.Kinds.{or_else}
 use Rattle.clap.specs.Faults.{check_fault, default_fault, defaults_fault, entered_fault, fault_of, given_default_fault, settle_fault, walk_fault}
-use Rattle.form_words.specs.Commands.{check_app, play_app, run_app}
+use Rattle.form_words.specs.Commands.{play_app, run_app}
 use Rattle.form_words.specs.Joined.{are_apart}
 use Rattle.form_words.proofs.OptionSteps.{NameCase, or_else_empty_both_empty, plain, plain_built, shape_with, unknown, valued, valued_built, with_flags}
 use Rattle.form_words.proofs.OptionWalk.{AllSpelled, Given, Grows, Reads, given_words, given_options_are_taken, taken_words_give_options}
@@ -148,20 +148,3 @@ run_app_is_optional = record {
       (valued_default (codes "patience") (with_default (with_default rows (valued_built (codes "pace"))) (plain_built (codes "locked")))).1
       ∙ ap (with_flags run_flags) (valued_default (codes "pace") rows).1;
 }
-
--- a check's command takes no word
-pub found_check_has_no_words : (words : List Text) → are_apart words ≡ true → fault_of check_app words ≡ [] → words ≡ []
-found_check_has_no_words words apart none =
-    let end = (walk [] [] nothing_held words).held in
-    let first = or_else_empty_both_empty (walk_fault (shape_with (codes "check") []) [] (walk_from nothing_held) words) _ (sym (fault_is_of_its_parts check_app (codes "check") [] refl refl words) ∙ none) in
-    let second = or_else_empty_both_empty (settle_fault [] false end) _ first.1 in
-    let read = taken_words_give_options (codes "check") [] (λ name. unknown refl) (λ x. refl) (λ i. refl) words [] None (record { apart = apart; faultless = first.0; settles_last = second.0 }) in
-    by words read.1.given (settled [] end).rows read.1.spelled read.1.grows where
-      by : (words : List Text) (given : List Given) (after : List Row) → words ≡ flat_map given_words given → Grows [] [] given after → words ≡ []
-      by words [] after spelled grows = spelled
-      by words ((name, None) ∷ more) after spelled grows = let bad = grows.0 in cc
-      by words ((name, Some value) ∷ more) after spelled grows = let bad = grows.0.0 in cc
-
-pub check_without_words_taken : fault_of check_app [] ≡ []
-unfolding walk_fault defaults_fault
-check_without_words_taken = refl

@@ -26,8 +26,5 @@ play_app = with_rule (with_rule (with_rule (bare_app (codes "play")) (valued_rul
 abbrev pub run_app : App
 run_app = with_rule (with_rule (with_rule (bare_app (codes "run")) (valued_rule (codes "pace"))) (plain_rule (codes "locked"))) (valued_rule (codes "patience"))
 
-abbrev pub check_app : App
-check_app = bare_app (codes "check")
-
 abbrev pub make_app : App
 make_app = with_rule (with_rule (with_rule (bare_app (codes "make")) (number_rule (codes "start"))) (number_rule (codes "seats"))) (number_rule (codes "lines"))

@@ -7,7 +7,7 @@ use Rattle.form_words.specs.declared.pace.PaceName.{PaceName}
 use Rattle.form_words.specs.declared.pace.PaceName.TheVariants.{Steady}
 use Rattle.form_words.specs.declared.setting.Settings.{Settings}
 use Rattle.form_words.specs.declared.work.Work.{Work}
-use Rattle.form_words.specs.declared.work.Work.TheVariants.{Play, Run, Check, Make}
+use Rattle.form_words.specs.declared.work.Work.TheVariants.{Play, Run, Check, Plan, Make}
 use Rattle.form_words.specs.Settings.{no_settings, most_patience, GiveSettings}
 
 -- the word with which a form begins
@@ -15,6 +15,7 @@ abbrev pub form_word : Work → List ℕ
 form_word (Play pace brief press) = codes "play"
 form_word (Run pace locked patience) = codes "run"
 form_word Check = codes "check"
+form_word Plan = codes "plan"
 form_word (Make start seats lines) = codes "make"
 
 -- a script may be made from this start, for so many seats and of so many lines
@@ -44,6 +45,7 @@ abbrev pub Completes : List (List ℕ) → Work → Type 0
 Completes rest (Play pace brief press) = GiveSettings no_settings rest (record no_settings { pace = pace; brief = brief; press = press })
 Completes rest (Run pace locked patience) = (settings : Settings) × GiveSettings no_settings rest settings × IsRunSettings pace locked patience settings
 Completes rest Check = rest ≡ []
+Completes rest Plan = rest ≡ []
 Completes rest (Make start seats lines) = MayBeMade start seats lines × (rest ≡ decimal start ∷ decimal seats ∷ decimal lines ∷ [])
 
 -- the words after the program's name ask for the work
@@ -74,4 +76,5 @@ abbrev pub most_bytes : Work → ℕ
 most_bytes (Play pace brief press) = most_script
 most_bytes (Run pace locked patience) = most_script
 most_bytes Check = most_history
+most_bytes Plan = most_history
 most_bytes (Make start seats lines) = 0

@@ -1,6 +1,6 @@
 ghost use Rattle.std.specs.Prelude.{◌≡◌, IfOk, false};
 ghost use Rattle.clap.specs.Words.{app_of, rule_of};
-ghost use Rattle.form_words.specs.Commands.{bare_app, check_app, make_app, number_rule, plain_rule, play_app, run_app, valued_rule};
+ghost use Rattle.form_words.specs.Commands.{bare_app, make_app, number_rule, plain_rule, play_app, run_app, valued_rule};
 
 use clap::{Arg, ArgAction, Command};
 use std::alloc::{AllocError, Global};
@@ -57,13 +57,6 @@ pub fn run_command<'a>(alloc: Global) -> Result<Command<'a>, AllocError>
         .arg(valued_option(alloc, "pace"))?
         .arg(plain_option(alloc, "locked"))?
         .arg(valued_option(alloc, "patience"))
-}
-
-/// What stands behind the word of a check: nothing.
-pub fn check_command<'a>(alloc: Global) -> Command<'a>
-    ensures { app_of result ≡ check_app }
-{
-    bare_command(alloc, "check")
 }
 
 /// What stands behind the word of a making.

@@ -1,4 +1,4 @@
-ghost use Rattle.std.specs.Prelude.{◌≡◌, ◌≤◌, ℕ, Some, decimal, Bool as ABool, Option as AnOption, true, codes, map, IfNone, IfOk, IfSome};
+ghost use Rattle.std.specs.Prelude.{◌≡◌, ◌≤◌, [], ℕ, Some, decimal, Bool as ABool, Option as AnOption, true, codes, map, IfNone, IfOk, IfSome};
 ghost use Rattle.clap.specs.Words.{app_of, first_of, found_of, is_simple_and_free, rows_of};
 ghost use Rattle.form_words.specs.Matched.{FindsMaking, FindsSettings};
 ghost use Rattle.form_words.specs.Works.{most_bytes, form_word, AskFor, Completes, IsForm, IsWork, HasInput};
@@ -6,7 +6,7 @@ ghost use Rattle.form_words.specs.declared.pace.PaceName.{PaceName as APaceName}
 ghost use Rattle.form_words.specs.declared.setting.Settings.{Settings as AreGiven};
 ghost use Rattle.form_words.specs.declared.work.Work.TheVariants as works;
 
-use crate::command::{check_command, make_command, play_command, run_command};
+use crate::command::{make_command, play_command, run_command};
 use crate::matching::matches_in;
 use crate::pace::PaceName;
 use crate::range::number_in;
@@ -20,7 +20,7 @@ use std::alloc::Global;
 /// The most bytes of a script that is played or run.
 pub const MOST_SCRIPT: usize = 1_048_576;
 
-/// The most bytes of a history that is checked.
+/// The most bytes of a history that is checked, or by which space is planned.
 pub const MOST_HISTORY: usize = 16_777_216;
 
 /// How often a seat of a run finds another one behind before it answers that its collect waits, where the words don't say.
@@ -44,6 +44,8 @@ pub enum Work {
     },
     /// Checks a history.
     Check,
+    /// Plans the space for a play by its history.
+    Plan,
     /// Makes a script.
     Make {
         start: u32,
@@ -96,15 +98,12 @@ fn run_of<'a>(alloc: Global, words: &'a [&'a str]) -> Result<Option<Work>, Memor
     }))
 }
 
-/// The check, where no words stand behind the form's.
-fn check_of<'a>(alloc: Global, words: &'a [&'a str]) -> Result<Option<Work>, Memory>
-    ensures some { IfOk result (λ found. IfSome found (λ work. (form_word work ≡ codes "check") × Completes (map (λ w. w.now) words.entry.now) work)) }
-    ensures none { IfOk result (λ found. IfNone found (¬ Completes (map (λ w. w.now) words.entry.now) works.Check)) }
+/// The work, where no words stand behind its form's.
+fn alone(work: Work, words: &[&str]) -> Option<Work>
+    ensures some { IfSome result (λ found. (found ≡ work) × (words.now ≡ [])) }
+    ensures none { IfNone result (¬ (words.now ≡ [])) }
 {
-    let Some(_matches) = matches_in(check_command(alloc), words)? else {
-        return Ok(None);
-    };
-    Ok(Some(Work::Check))
+    if words.is_empty() { Some(work) } else { None }
 }
 
 /// The number at the position, in the range with both ends.
@@ -156,7 +155,8 @@ impl Work {
         match *form {
             "play" => play_of(alloc, rest),
             "run" => run_of(alloc, rest),
-            "check" => check_of(alloc, rest),
+            "check" => Ok(alone(Work::Check, rest)),
+            "plan" => Ok(alone(Work::Plan, rest)),
             "make" => make_of(alloc, rest),
             _ => Ok(None),
         }
@@ -169,7 +169,7 @@ impl Work {
     {
         match self {
             Work::Play { .. } | Work::Run { .. } => Some(MOST_SCRIPT),
-            Work::Check => Some(MOST_HISTORY),
+            Work::Check | Work::Plan => Some(MOST_HISTORY),
             Work::Make { .. } => None,
         }
     }

@@ -1,7 +1,7 @@
 -- Words and input call for one status alone.
-use Rattle.std.proofs.Common.{◌≡◌, ℕ, List, Option, Some, refl, sym, ap, subst, ◌∙◌, arith}
+use Rattle.std.proofs.Common.{◌≡◌, ℕ, List, Option, Some, inl, inr, refl, sym, ap, subst, ◌∙◌, arith}
 use Rattle.form_words.specs.declared.work.Work.{Work}
-use Rattle.form_words.specs.declared.work.Work.TheVariants.{Play, Run, Check, Make}
+use Rattle.form_words.specs.declared.work.Work.TheVariants.{Play, Run, Check, Plan, Make}
 use Rattle.form_words.specs.Works.{AskFor}
 use Rattle.form_words.proofs.AskedWork.{asked_work_is_one}
 use Rattle.script_text.specs.declared.cause.Cause.{Cause}
@@ -9,6 +9,7 @@ use Rattle.script_text.specs.declared.cause.LineFault.{LineFault}
 use Rattle.script_text.specs.declared.script.Form.TheVariants as forms
 use Rattle.script_text.proofs.Whole.{first_fault-none}
 use Rattle.reply_text.specs.declared.history.History.{History}
+use Rattle.reply_text.specs.History.{IsHistory}
 use Rattle.reply_text.proofs.Whole.{first_history_fault-none, equal_texts_same_history}
 use Rattle.io_edge.specs.Left.{GivesAll}
 use Rattle.log_merge.specs.Legal.{IsLegalHistory}
@@ -17,6 +18,8 @@ use Rattle.schism_program.specs.declared.status.Status.{Status}
 use Rattle.schism_program.specs.declared.status.Status.TheVariants.{Done, Refused, Usage, TooLong, NotLegal}
 use Rattle.schism_program.specs.Due.{IsDue, IsDueTo, IsInput}
 use Rattle.schism_program.specs.Outcome.{IsRead}
+use Rattle.schism_program.specs.Planning.{FailsAsPlay}
+use Rattle.schism_program.specs.Verdict.{FindsIllegal}
 use Rattle.schism_program.specs.Works.{FailsAt, IsIllegalAt, MakesText, Suits}
 use Rattle.schism_program.proofs.FirstLines.{equal_first_lines}
 
@@ -25,21 +28,33 @@ pub made_input_suits_work : (work : Work) (input text : List ℕ) → MakesText 
 made_input_suits_work (Play pace brief) input text plays = (plays.script, plays.spelled)
 made_input_suits_work (Run pace locked patience) input text runs = (runs.script, runs.spelled)
 made_input_suits_work Check input text finds = (finds.history, finds.spelled, finds.legal)
+made_input_suits_work Plan input text plans = plans.is
 made_input_suits_work (Make start seats lines) input text made = tt
+
+-- a history of a play has no fault, and isn't one of a run
+play_none : (input : List ℕ) (history : History) (line : ℕ) (cause : Cause) → IsHistory input history → history.form ≡ forms.Play → ¬ FailsAsPlay input line cause
+play_none input history line cause spelled play (inl fault) = let none = first_history_fault-none input history spelled in cc
+play_none input history line cause spelled play (inr (run, is, told)) = let same = equal_texts_same_history input history run.history spelled run.spelled in let its = run.run in cc
 
 -- what suits the work has no fault
 suits_none : (work : Work) (input : List ℕ) (line : ℕ) (cause : Cause) → Suits work input → ¬ FailsAt work input line cause
 suits_none (Play pace brief) input line cause (script, spelled) fault = let none = first_fault-none forms.Play input script spelled in cc
 suits_none (Run pace locked patience) input line cause (script, spelled) fault = let none = first_fault-none forms.Run input script spelled in cc
 suits_none Check input line cause (history, spelled, legal) fault = let none = first_history_fault-none input history spelled in cc
+suits_none Plan input line cause is fault = play_none input is.history line cause is.spelled is.play fault
 suits_none (Make start seats lines) input line cause suits fault = fault
+
+-- a legal history has no line that isn't
+never_both : (input : List ℕ) (line : ℕ) (history : History) → IsHistory input history → IsLegalHistory history → ¬ FindsIllegal input line
+never_both input line history spelled legal illegal = illegal.illegal (subst IsLegalHistory (equal_texts_same_history input history illegal.history spelled illegal.spelled) legal)
 
 -- and no line that isn't legal
 suits_legal : (work : Work) (input : List ℕ) (line : ℕ) → Suits work input → ¬ IsIllegalAt work input line
 suits_legal (Play pace brief) input line suits illegal = illegal
 suits_legal (Run pace locked patience) input line suits illegal = illegal
 suits_legal (Make start seats lines) input line suits illegal = illegal
-suits_legal Check input line (history, spelled, legal) illegal = illegal.illegal (subst IsLegalHistory (equal_texts_same_history input history illegal.history spelled illegal.spelled) legal)
+suits_legal Check input line (history, spelled, legal) illegal = never_both input line history spelled legal illegal
+suits_legal Plan input line is illegal = never_both input line is.history is.spelled is.legal illegal.finds
 
 -- what has a line that isn't legal has no fault
 illegal_none : (work : Work) (input : List ℕ) (line number : ℕ) (cause : Cause) → IsIllegalAt work input line → ¬ FailsAt work input number cause
@@ -47,6 +62,7 @@ illegal_none (Play pace brief) input line number cause illegal fault = illegal
 illegal_none (Run pace locked patience) input line number cause illegal fault = illegal
 illegal_none (Make start seats lines) input line number cause illegal fault = illegal
 illegal_none Check input line number cause illegal fault = let none = first_history_fault-none input illegal.history illegal.spelled in cc
+illegal_none Plan input line number cause illegal fault = play_none input illegal.finds.history number cause illegal.finds.spelled illegal.play fault
 
 -- one line is refused, for one cause
 same_fault : (line line' : ℕ) (cause cause' : Cause) → ◌≡◌ {A = Option LineFault} (Some (record { line = line; cause = cause })) (Some (record { line = line'; cause = cause' })) → Refused line cause ≡ Refused line' cause'
@@ -58,16 +74,25 @@ fails_once : (work : Work) (input : List ℕ) (line line' : ℕ) (cause cause' :
 fails_once (Play pace brief) input line line' cause cause' fault fault' = same_fault line line' cause cause' (sym fault ∙ fault')
 fails_once (Run pace locked patience) input line line' cause cause' fault fault' = same_fault line line' cause cause' (sym fault ∙ fault')
 fails_once Check input line line' cause cause' fault fault' = same_fault line line' cause cause' (sym fault ∙ fault')
+fails_once Plan input line line' cause cause' (inl fault) (inl fault') = same_fault line line' cause cause' (sym fault ∙ fault')
+fails_once Plan input line line' cause cause' (inl fault) (inr (run, is, told)) = let none = first_history_fault-none input run.history run.spelled in cc
+fails_once Plan input line line' cause cause' (inr (run, is, told)) (inl fault) = let none = first_history_fault-none input run.history run.spelled in cc
+fails_once Plan input line line' cause cause' (inr (run, is, told)) (inr (run', is', told')) = cc
 fails_once (Make start seats lines) input line line' cause cause' fault fault' = absurd fault
 
--- one line is the first that isn't legal
+-- one line of a history is the first that isn't legal
+first_illegal_once : (input : List ℕ) (line line' : ℕ) → FindsIllegal input line → FindsIllegal input line' → line ≡ line'
+first_illegal_once input line line' illegal illegal' =
+    let same = equal_texts_same_history input illegal.history illegal'.history illegal.spelled illegal'.spelled in
+    equal_first_lines illegal'.history line line' (subst (λ (h : History). IsFirstIllegal h line) same illegal.first) illegal'.first
+
+-- and so of a work's input
 illegal_once : (work : Work) (input : List ℕ) (line line' : ℕ) → IsIllegalAt work input line → IsIllegalAt work input line' → line ≡ line'
 illegal_once (Play pace brief) input line line' illegal illegal' = absurd illegal
 illegal_once (Run pace locked patience) input line line' illegal illegal' = absurd illegal
 illegal_once (Make start seats lines) input line line' illegal illegal' = absurd illegal
-illegal_once Check input line line' illegal illegal' =
-    let same = equal_texts_same_history input illegal.history illegal'.history illegal.spelled illegal'.spelled in
-    equal_first_lines illegal'.history line line' (subst (λ (h : History). IsFirstIllegal h line) same illegal.first) illegal'.first
+illegal_once Check input line line' illegal illegal' = first_illegal_once input line line' illegal illegal'
+illegal_once Plan input line line' illegal illegal' = first_illegal_once input line line' illegal.finds illegal'.finds
 
 -- an input calls for one status
 due_once : (work : Work) (input : List ℕ) (one other : Status) → IsDueTo work input one → IsDueTo work input other → one ≡ other
@@ -97,6 +122,7 @@ due_once work input _ other due due' = absurd due
 same_input : (work : Work) (left left' : Option (List ℕ)) (input input' : List ℕ) → IsRead work left left' input → IsInput work left input' → input ≡ input'
 same_input (Play pace brief) left left' input input' all its = let gives : GivesAll (Some input') left' input = subst (λ (l : Option (List ℕ)). GivesAll l left' input) its all in gives.0
 same_input (Run pace locked patience) left left' input input' all its = let gives : GivesAll (Some input') left' input = subst (λ (l : Option (List ℕ)). GivesAll l left' input) its all in gives.0
+same_input Plan left left' input input' all its = let gives : GivesAll (Some input') left' input = subst (λ (l : Option (List ℕ)). GivesAll l left' input) its all in gives.0
 same_input Check left left' input input' all its = let gives : GivesAll (Some input') left' input = subst (λ (l : Option (List ℕ)). GivesAll l left' input) its all in gives.0
 same_input (Make start seats lines) left left' input input' all its = all.0 ∙ sym its
 

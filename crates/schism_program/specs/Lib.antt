@@ -2,6 +2,7 @@ pub mod Status
 pub mod Serving
 pub mod Running
 pub mod Verdict
+pub mod Planning
 pub mod WorkFaults
 pub mod Works
 pub mod Outcome

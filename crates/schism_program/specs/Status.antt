@@ -1,7 +1,7 @@
 -- The numbers and texts of statuses.
 use Rattle.std.specs.Prelude.{ℕ, List, [], ◌∷◌, ◌++◌, codes, decimal}
 use Rattle.script_text.specs.declared.cause.Cause.{Cause}
-use Rattle.script_text.specs.declared.cause.Cause.TheVariants.{NoHeader, BadHeap, NoSeat, NoCommand, BadNumber, OutOfRange, TooManyWords, TooManyLines, BadEntry, NoEnd, HistoryLines}
+use Rattle.script_text.specs.declared.cause.Cause.TheVariants.{NoHeader, BadHeap, NoSeat, NoCommand, BadNumber, OutOfRange, TooManyWords, TooManyLines, BadEntry, NoEnd, HistoryLines, NotPlay}
 use Rattle.schism_program.specs.declared.status.Status.{Status}
 use Rattle.schism_program.specs.declared.status.Status.TheVariants.{Done, Refused, Usage, ReadFault, WriteFault, Memory, TooLong, NotLegal}
 
@@ -29,6 +29,7 @@ cause_name TooManyLines = codes "TooManyLines"
 cause_name BadEntry = codes "BadEntry"
 cause_name NoEnd = codes "NoEnd"
 cause_name HistoryLines = codes "HistoryLines"
+cause_name NotPlay = codes "NotPlay"
 
 -- what is said of a status
 abbrev pub status_words : Status → List ℕ

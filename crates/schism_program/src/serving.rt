@@ -10,6 +10,7 @@ ghost use Rattle.schism_program.specs.Works.{FailsAt, IsIllegalAt, LeavesTable, 
 
 use crate::fault::WorkFault;
 use crate::made::Made;
+use crate::planning::plan_text;
 use crate::running::run_text;
 use crate::table_run::run_on_table;
 use crate::verdict::verdict;
@@ -148,6 +149,10 @@ pub fn made_work<G: Gate, R: Threads + Wait + Sync>(
         }
         Work::Check => {
             let text = verdict(alloc, &input)?;
+            Ok(text_alone(text))
+        }
+        Work::Plan => {
+            let text = plan_text(alloc, &input)?;
             Ok(text_alone(text))
         }
         Work::Make {

@@ -64,6 +64,7 @@ fn name_of(cause: Cause) -> &'static str
         Cause::BadEntry => "BadEntry",
         Cause::NoEnd => "NoEnd",
         Cause::HistoryLines => "HistoryLines",
+        Cause::NotPlay => "NotPlay",
     }
 }
 

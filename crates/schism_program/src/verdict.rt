@@ -12,7 +12,7 @@ use script_text::push_number;
 use std::alloc::Global;
 
 /// The history that the input is.
-fn history_of(alloc: Global, input: &[u8]) -> Result<History, WorkFault>
+pub fn history_of(alloc: Global, input: &[u8]) -> Result<History, WorkFault>
     ensures ok { IfOk result (IsHistory input.now) }
     ensures refused { (fault : ALineFault) → result ≡ Err (WorkFault.Refused fault) →
         first_history_fault input.now ≡ Some fault }

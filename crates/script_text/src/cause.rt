@@ -18,6 +18,8 @@ pub enum Cause {
     BadEntry,
     NoEnd,
     HistoryLines,
+    /// A history of a run where one of a play is wanted.
+    NotPlay,
 }
 
 /// A line of a text, counted from 1, and what is wrong with it.

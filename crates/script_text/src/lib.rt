@@ -31,4 +31,6 @@ pub use reading::{MOST_LINES, read_script};
 pub use script::{Form, Line, Script};
 pub use sequence::Sequence;
 pub use text::{push_heap_line, write_script};
-pub use writing::{push_command, push_digits, push_heap, push_number, push_turns, push_word};
+pub use writing::{
+    push_command, push_digits, push_heap, push_named, push_number, push_turns, push_word,
+};

@@ -1,4 +1,4 @@
-ghost use Rattle.std.specs.Prelude.{◌≡◌, ◌∷◌, ◌++◌, decimal, OnOk};
+ghost use Rattle.std.specs.Prelude.{◌≡◌, [], ◌∷◌, ◌++◌, decimal, OnOk};
 ghost use Rattle.script_text.specs.Text.{words_with_spaces};
 ghost use Rattle.script_text.specs.Words.{command_words, heap_words, turn_words};
 
@@ -28,6 +28,15 @@ pub fn push_number(text: &mut Vec<u8>, number: u64) -> Result<(), Memory>
 {
     text.push(b' ')?;
     push_digits(text, number)
+}
+
+/// Appends a space and the word, and a space and the number.
+pub fn push_named(text: &mut Vec<u8>, word: &[u8], number: u64) -> Result<(), Memory>
+    ensures { OnOk result
+        (text.new.items ≡ text.old.items ++ words_with_spaces (word.now ∷ decimal number ∷ [])) }
+{
+    push_word(text, word)?;
+    push_number(text, number)
 }
 
 /// Appends the words of a command as it stands in a script, each after a space.

@@ -4,17 +4,8 @@ ghost use Rattle.space_plan.specs.Text.{cycle_line, found_words, full_line, left
 
 use crate::report::{CyclePlan, PlanReport};
 use heap_model::{Heap, Memory};
-use script_text::{push_heap_line, push_number, push_word};
+use script_text::{push_heap_line, push_named, push_number};
 use std::alloc::Global;
-
-/// Appends a space and the word, and a space and the number.
-fn push_named(text: &mut Vec<u8>, word: &[u8], number: u64) -> Result<(), Memory>
-    ensures { OnOk result
-        (text.new.items ≡ text.old.items ++ words_with_spaces (word.now ∷ decimal number ∷ [])) }
-{
-    push_word(text, word)?;
-    push_number(text, number)
-}
 
 /// Begins a line with the word and the number.
 fn begin_line(text: &mut Vec<u8>, word: &[u8], number: u64) -> Result<(), Memory>

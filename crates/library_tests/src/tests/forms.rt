@@ -7,7 +7,7 @@ use std::alloc::Global;
 use std::test::Fail;
 
 /// Words that are no form, each with one space between two.
-const NO_FORMS: [&str; 51] = [
+const NO_FORMS: [&str; 54] = [
     "plays",
     "Check",
     "play extra",
@@ -50,6 +50,9 @@ const NO_FORMS: [&str; 51] = [
     "run --pace=steady",
     "make -- 1 1 1",
     "check --",
+    "plan --",
+    "plan --brief",
+    "plan extra",
     "make",
     "make 7 4",
     "make 7 4 2000 1",
@@ -159,8 +162,9 @@ fn asks_for_the_work_of_a_form(rt: HostRuntime) -> Result<(), Fail> {
         same(&rt, &asked(alloc, line), &Ok(Some(work)), &line);
         same(&rt, &work.most_bytes(), &None, &line);
     }
-    let check = Work::Check;
-    same(&rt, &asked(alloc, "check"), &Ok(Some(check)), &"check");
-    same(&rt, &check.most_bytes(), &Some(16_777_216), &"check");
+    for (line, work) in [("check", Work::Check), ("plan", Work::Plan)] {
+        same(&rt, &asked(alloc, line), &Ok(Some(work)), &line);
+        same(&rt, &work.most_bytes(), &Some(16_777_216), &line);
+    }
     Ok(())
 }

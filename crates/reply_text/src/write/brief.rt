@@ -5,11 +5,10 @@ ghost use Rattle.reply_text.specs.write.Brief.{brief_lines, commands_line, work_
 
 use crate::history::{History, SpaceMark};
 use crate::write::counts::BriefCounts;
-use crate::write::replies::push_named;
 use crate::write::text::{push_end, push_space};
 use heap_model::Memory;
 use itoa::Buffer;
-use script_text::{push_heap_line, push_number, push_word};
+use script_text::{push_heap_line, push_named, push_number, push_word};
 use std::alloc::Global;
 
 /// Appends a space and the number in decimal digits.

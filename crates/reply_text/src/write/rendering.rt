@@ -2,9 +2,9 @@ ghost use Rattle.std.specs.Prelude.{◌≡◌, [], ◌∷◌, ◌++◌, codes, d
 ghost use Rattle.script_text.specs.Text.{words_with_spaces};
 ghost use Rattle.reply_text.specs.write.Entries.{entry_text};
 
-use crate::write::replies::{push_id, push_named, push_reply, push_turn_reply};
+use crate::write::replies::{push_id, push_reply, push_turn_reply};
 use heap_model::{Entry, Memory};
-use script_text::{push_command, push_digits, push_turns, push_word};
+use script_text::{push_command, push_digits, push_named, push_turns, push_word};
 use std::alloc::Global;
 
 fn push_seat(text: &mut Vec<u8>, seat: u8) -> Result<(), Memory>

@@ -4,7 +4,7 @@ ghost use Rattle.reply_text.specs.write.Entries.{id_word, stamp_word, value_word
 
 use heap_model::limits::STAMP_LIMIT;
 use heap_model::{Id, Memory, Reply, TurnReply, Value};
-use script_text::{push_digits, push_number, push_word};
+use script_text::{push_digits, push_named, push_number, push_word};
 
 /// Appends a space and the id.
 pub fn push_id(text: &mut Vec<u8>, id: Id) -> Result<(), Memory>
@@ -28,15 +28,6 @@ pub fn push_stamp(text: &mut Vec<u8>, stamp: u32) -> Result<(), Memory>
     push_number(text, (stamp / STAMP_LIMIT).saturating_sub(1).into())?;
     text.push(b':')?;
     push_digits(text, (stamp % STAMP_LIMIT).into())
-}
-
-/// Appends a space and the word, and a space and the number.
-pub fn push_named(text: &mut Vec<u8>, word: &[u8], number: u64) -> Result<(), Memory>
-    ensures { OnOk result
-        (text.new.items ≡ text.old.items ++ words_with_spaces (word.now ∷ decimal number ∷ [])) }
-{
-    push_word(text, word)?;
-    push_number(text, number)
 }
 
 fn push_value(text: &mut Vec<u8>, value: Value) -> Result<(), Memory>

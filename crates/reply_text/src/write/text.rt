@@ -6,9 +6,8 @@ ghost use Rattle.reply_text.specs.write.Lines.{history_line};
 
 use crate::history::{History, SpaceMark};
 use crate::write::rendering::push_entry;
-use crate::write::replies::push_named;
 use heap_model::{Entry, Memory};
-use script_text::{Form, push_heap_line};
+use script_text::{Form, push_heap_line, push_named};
 use std::alloc::Global;
 
 /// Appends the first line and its line feed.

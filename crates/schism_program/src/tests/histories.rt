@@ -1,4 +1,4 @@
-//! Histories that are checked, and texts that are none.
+//! Histories that are checked, or by which space is planned, and texts that are none.
 
 use super::comparing::tells;
 use super::{FIRST, ended, illegal, refused};
@@ -36,6 +36,38 @@ fn checks_histories_of_collections(rt: HostRuntime) -> Result<(), Fail> {
     ] {
         let told = ended(&rt, alloc, &["check"], history.as_bytes(), &[], &[])?;
         tells(&rt, &told, status, verdict.as_bytes(), &history);
+    }
+    Ok(())
+}
+
+// The history of a play without a line.
+const EMPTY: &str =
+    "history 1 play\nheap 1 0 1\nspace used 11 of 16 spine 0 of 0\n0 leave = ok\nc phase 1\nc phase 2\nc phase 3\nc phase 4\nc phase 5\nc frees 11\nc phase 6\nc ends 0 kept 0\nend used 0\n";
+
+const EMPTY_PLAN: &str =
+    "plan 1\nheap 1 0 1\ncycle 0 reach 0 since 0 bound 0 used 0 kept 0\nmost reach 11 takes 0 need 0\ngroups 2 turns 325\nfull 0\n";
+
+const DROPPED_PLAN: &str =
+    "plan 1\nheap 1 0 1\ncycle 0 reach 11 since 0 bound 15 used 15 kept 15\ncycle 1 reach 0 since 0 bound 0 used 0 kept 0\nmost reach 11 takes 5 need 16\ngroups 4 turns 325\nfull 1\n";
+
+#[test]
+fn plans_space_by_histories_of_plays(rt: HostRuntime) -> Result<(), Fail> {
+    let alloc = rt.alloc();
+    let (kept, wrong) = (one_dropped(alloc, 15)?, one_dropped(alloc, 10)?);
+    for (text, status, plan) in [
+        (EMPTY, Status::Done, EMPTY_PLAN),
+        (kept.as_str(), Status::Done, DROPPED_PLAN),
+        (wrong.as_str(), illegal(20), ""),
+        (
+            "history 1 run\nheap 1 0 1\nend used 11\n",
+            refused(1, Cause::NotPlay),
+            "",
+        ),
+        ("history 1 run\nheap 1 0 1\n", refused(3, Cause::NoEnd), ""),
+        (FIRST, refused(1, Cause::NoHeader), ""),
+    ] {
+        let told = ended(&rt, alloc, &["plan"], text.as_bytes(), &[], &[])?;
+        tells(&rt, &told, status, plan.as_bytes(), &text);
     }
     Ok(())
 }
