@@ -130,7 +130,7 @@ def usages() -> list[tuple[list[str], bytes]]:
     """Words that are no form, and forms with their words in each order."""
     script = text_of(make(7, 2, 30).lines())
     forms = ("", "plays", "play --brief --brief", "play --pace", "play --pace quick", "play --brief --pace steady",
-             "play --pace steady --brief", "play --pace debt", "play --pace debt --pace steady", "run --pace debts", "play x", "play --locked", "check x", "run --brief", "run --patience 0",
+             "play --pace steady --brief", "play --press", "play --press --press", "run --press", "play --pace debt", "play --pace debt --pace steady", "run --pace debts", "play x", "play --locked", "check x", "run --brief", "run --patience 0",
              "run --patience 1000001", "run --locked --locked", "make 1 1", "make 1 1 1 1", "make 1 17 1",
              "make 2147483648 1 1", "make 2147483647 16 9", "make 0 1 0", "make 1 1 32769", "make 01 1 1",
              "make 5 16 32768", "make 11111111111 1 1")

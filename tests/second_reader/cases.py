@@ -19,7 +19,8 @@ from .worked import worked_plays
 Runs = Callable[[list[str], bytes], Answer]
 
 PLAYS = (["play"], ["play", "--pace", "steady"], ["play", "--brief"], ["play", "--brief", "--pace", "steady"],
-         ["play", "--pace", "steady", "--brief"], ["play", "--pace", "debt"], ["play", "--pace", "debt", "--brief"])
+         ["play", "--pace", "steady", "--brief"], ["play", "--pace", "debt"], ["play", "--pace", "debt", "--brief"],
+         ["play", "--press"], ["play", "--press", "--pace", "steady"], ["play", "--brief", "--press", "--pace", "debt"])
 
 
 class Case(NamedTuple):
@@ -60,7 +61,7 @@ def text_of_script(script: Script) -> bytes:
 
 def draw_history(random: Random) -> bytes:
     """The history of a play."""
-    return text_of(play(draw_any_script(random, True), random.choice((None, "steady", "debt"))).lines())
+    return text_of(play(draw_any_script(random, True), random.choice((None, "steady", "debt")), random.random() < 0.3).lines())
 
 
 def run_history(random: Random, runs: Runs) -> bytes:

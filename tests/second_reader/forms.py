@@ -58,8 +58,8 @@ def answer_words(words: list[str], text: bytes) -> Answer | None:
     if form == "make":
         return answer_make(rest)
     if form == "play":
-        options = options_of(rest, ("--pace", "--brief"))
-        return usage() if options is None else answer_play(text, options.get("--pace"), "--brief" in options)
+        options = options_of(rest, ("--pace", "--brief", "--press"))
+        return usage() if options is None else answer_play(text, options.get("--pace"), "--brief" in options, "--press" in options)
     if form == "run":
         options = options_of(rest, ("--locked", "--patience", "--pace"))
         return usage() if options is None else answer_run(text)

@@ -49,6 +49,13 @@ class Machine:
             reply = self.seats[command.party].call(command.name, command.operands)
         self.body.append(Told(command, reply))
 
+    def press(self, command: Command) -> None:
+        """Makes the call of a command, and where it is refused for want of space a collect and the call again."""
+        self.answer(command)
+        if self.body[-1].reply.kind in ("full", "spine"):
+            self.answer(Command(command.party, "collect", ()))
+            self.answer(command)
+
     def turns(self, count: int) -> Reply:
         """So many turns, or fewer, up to one that waits."""
         for _ in range(count):
@@ -93,13 +100,16 @@ class Machine:
         return Space(self.table.taken(), heap.fragments, self.table.words[GRANTED], heap.spine)
 
 
-def play(script: Script, pace_name: str | None) -> History:
-    """The history of a play."""
+def play(script: Script, pace_name: str | None, pressed: bool = False) -> History:
+    """The history of a play, whose seats may collect where they are refused space."""
     machine = Machine(script.heap)
     pace = Pace(pace_name)
     for command in script.commands:
         told = len(machine.body)
-        machine.answer(command)
+        if pressed:
+            machine.press(command)
+        else:
+            machine.answer(command)
         if pace_name and command.party != COLLECTOR:
             machine.paced_turns(pace, told)
     machine.body.append(machine.space())
@@ -130,12 +140,12 @@ def brief(history: History) -> list[str]:
     ]
 
 
-def answer_play(text: bytes, pace_name: str | None, in_brief: bool) -> Answer:
+def answer_play(text: bytes, pace_name: str | None, in_brief: bool, pressed: bool) -> Answer:
     """What `play` answers to this input."""
     if len(text) > LONGEST_SCRIPT:
         return too_long()
     try:
-        history = play(read_script(text, True), pace_name)
+        history = play(read_script(text, True), pace_name, pressed)
     except Refused as fault:
         return refused(fault)
     return done(text_of(brief(history) if in_brief else history.lines()))

@@ -21,6 +21,7 @@ OBJECTS = """0 new 1 9
 POLLS = "0 poll\n1 poll\n"
 STEADY = ["play", "--pace", "steady"]
 DEBT = ["play", "--pace", "debt"]
+PRESS = ["play", "--press"]
 
 
 def turn_by_turn(random: Random) -> str:
@@ -69,5 +70,5 @@ def worked_plays() -> list[tuple[list[str], bytes]]:
     cases = [(["play"], turn_by_turn(Random(f"turns {number}"))) for number in range(8)]
     cases += [(["play"], phase_by_phase(k, answered)) for k in range(7) for answered in (True, False) if k or answered]
     cases += [(["play"], wants_space()), (STEADY, wants_space()), (STEADY, long_pace())]
-    cases += [(DEBT, wants_space()), (DEBT, long_pace())]
+    cases += [(DEBT, wants_space()), (DEBT, long_pace()), (PRESS, wants_space())]
     return [(words, text.encode()) for words, text in cases]

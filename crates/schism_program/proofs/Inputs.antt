@@ -8,7 +8,7 @@ use Rattle.schism_program.specs.Outcome.{IsReadUpTo}
 
 -- a work with an input reads so much of it
 pub work_reads_up_to_limit : (work : Work) (left left' : Option (List ℕ)) → HasInput work → LosesUpTo left left' (most_bytes work) → IsReadUpTo work left left'
-work_reads_up_to_limit (Play pace brief) left left' reads lost = lost
+work_reads_up_to_limit (Play pace brief press) left left' reads lost = lost
 work_reads_up_to_limit (Run pace locked patience) left left' reads lost = lost
 work_reads_up_to_limit Check left left' reads lost = lost
 work_reads_up_to_limit Plan left left' reads lost = lost

@@ -25,7 +25,7 @@ use Rattle.schism_program.proofs.FirstLines.{equal_first_lines}
 
 -- what a text was made of suits the work
 pub made_input_suits_work : (work : Work) (input text : List ℕ) → MakesText work input text → Suits work input
-made_input_suits_work (Play pace brief) input text plays = (plays.script, plays.spelled)
+made_input_suits_work (Play pace brief press) input text plays = (plays.script, plays.spelled)
 made_input_suits_work (Run pace locked patience) input text runs = (runs.script, runs.spelled)
 made_input_suits_work Check input text finds = (finds.history, finds.spelled, finds.legal)
 made_input_suits_work Plan input text plans = plans.is
@@ -38,7 +38,7 @@ play_none input history line cause spelled play (inr (run, is, told)) = let same
 
 -- what suits the work has no fault
 suits_none : (work : Work) (input : List ℕ) (line : ℕ) (cause : Cause) → Suits work input → ¬ FailsAt work input line cause
-suits_none (Play pace brief) input line cause (script, spelled) fault = let none = first_fault-none forms.Play input script spelled in cc
+suits_none (Play pace brief press) input line cause (script, spelled) fault = let none = first_fault-none forms.Play input script spelled in cc
 suits_none (Run pace locked patience) input line cause (script, spelled) fault = let none = first_fault-none forms.Run input script spelled in cc
 suits_none Check input line cause (history, spelled, legal) fault = let none = first_history_fault-none input history spelled in cc
 suits_none Plan input line cause is fault = play_none input is.history line cause is.spelled is.play fault
@@ -50,7 +50,7 @@ never_both input line history spelled legal illegal = illegal.illegal (subst IsL
 
 -- and no line that isn't legal
 suits_legal : (work : Work) (input : List ℕ) (line : ℕ) → Suits work input → ¬ IsIllegalAt work input line
-suits_legal (Play pace brief) input line suits illegal = illegal
+suits_legal (Play pace brief press) input line suits illegal = illegal
 suits_legal (Run pace locked patience) input line suits illegal = illegal
 suits_legal (Make start seats lines) input line suits illegal = illegal
 suits_legal Check input line (history, spelled, legal) illegal = never_both input line history spelled legal illegal
@@ -58,7 +58,7 @@ suits_legal Plan input line is illegal = never_both input line is.history is.spe
 
 -- what has a line that isn't legal has no fault
 illegal_none : (work : Work) (input : List ℕ) (line number : ℕ) (cause : Cause) → IsIllegalAt work input line → ¬ FailsAt work input number cause
-illegal_none (Play pace brief) input line number cause illegal fault = illegal
+illegal_none (Play pace brief press) input line number cause illegal fault = illegal
 illegal_none (Run pace locked patience) input line number cause illegal fault = illegal
 illegal_none (Make start seats lines) input line number cause illegal fault = illegal
 illegal_none Check input line number cause illegal fault = let none = first_history_fault-none input illegal.history illegal.spelled in cc
@@ -71,7 +71,7 @@ same_fault line line' cause cause' same =
     ap (λ (f : LineFault). Refused f.line f.cause) fault
 
 fails_once : (work : Work) (input : List ℕ) (line line' : ℕ) (cause cause' : Cause) → FailsAt work input line cause → FailsAt work input line' cause' → Refused line cause ≡ Refused line' cause'
-fails_once (Play pace brief) input line line' cause cause' fault fault' = same_fault line line' cause cause' (sym fault ∙ fault')
+fails_once (Play pace brief press) input line line' cause cause' fault fault' = same_fault line line' cause cause' (sym fault ∙ fault')
 fails_once (Run pace locked patience) input line line' cause cause' fault fault' = same_fault line line' cause cause' (sym fault ∙ fault')
 fails_once Check input line line' cause cause' fault fault' = same_fault line line' cause cause' (sym fault ∙ fault')
 fails_once Plan input line line' cause cause' (inl fault) (inl fault') = same_fault line line' cause cause' (sym fault ∙ fault')
@@ -88,7 +88,7 @@ first_illegal_once input line line' illegal illegal' =
 
 -- and so of a work's input
 illegal_once : (work : Work) (input : List ℕ) (line line' : ℕ) → IsIllegalAt work input line → IsIllegalAt work input line' → line ≡ line'
-illegal_once (Play pace brief) input line line' illegal illegal' = absurd illegal
+illegal_once (Play pace brief press) input line line' illegal illegal' = absurd illegal
 illegal_once (Run pace locked patience) input line line' illegal illegal' = absurd illegal
 illegal_once (Make start seats lines) input line line' illegal illegal' = absurd illegal
 illegal_once Check input line line' illegal illegal' = first_illegal_once input line line' illegal illegal'
@@ -120,7 +120,7 @@ due_once work input _ other due due' = absurd due
 
 -- a work has one input
 same_input : (work : Work) (left left' : Option (List ℕ)) (input input' : List ℕ) → IsRead work left left' input → IsInput work left input' → input ≡ input'
-same_input (Play pace brief) left left' input input' all its = let gives : GivesAll (Some input') left' input = subst (λ (l : Option (List ℕ)). GivesAll l left' input) its all in gives.0
+same_input (Play pace brief press) left left' input input' all its = let gives : GivesAll (Some input') left' input = subst (λ (l : Option (List ℕ)). GivesAll l left' input) its all in gives.0
 same_input (Run pace locked patience) left left' input input' all its = let gives : GivesAll (Some input') left' input = subst (λ (l : Option (List ℕ)). GivesAll l left' input) its all in gives.0
 same_input Plan left left' input input' all its = let gives : GivesAll (Some input') left' input = subst (λ (l : Option (List ℕ)). GivesAll l left' input) its all in gives.0
 same_input Check left left' input input' all its = let gives : GivesAll (Some input') left' input = subst (λ (l : Option (List ℕ)). GivesAll l left' input) its all in gives.0

@@ -13,6 +13,7 @@ use Rattle.reply_text.specs.declared.history.History.{History}
 use Rattle.reply_text.specs.History.{history_lines}
 use Rattle.reply_text.specs.write.Brief.{brief_lines}
 use Rattle.heap_runs.specs.Play.{IsPlay}
+use Rattle.heap_runs.specs.Pressed.{IsPressedPlay}
 
 -- the input is a script of this form
 abbrev pub IsScriptText : Form → List ℕ → Type 0
@@ -23,12 +24,17 @@ abbrev pub told_lines : Bool → History → List (List ℕ)
 told_lines false history = history_lines history
 told_lines true history = brief_lines history
 
--- the text tells a play of the input's script, with a pace or with none
-pub record Plays (paced brief : Bool) (input text : List ℕ) : Type 0 where
+-- the history is a play of the script, with a pace or with none, whose seats collect where they are refused, or one whose seats don't
+abbrev pub IsPlayBy : Bool → Bool → Script → History → Type 0
+IsPlayBy false paced script history = IsPlay paced script history
+IsPlayBy true paced script history = IsPressedPlay paced script history
+
+-- the text tells such a play of the input's script
+pub record Plays (press paced brief : Bool) (input text : List ℕ) : Type 0 where
   pub script : Script
   pub history : History
   pub spelled : IsScript forms.Play input script
-  pub played : IsPlay paced script history
+  pub played : IsPlayBy press paced script history
   pub rendered : text ≡ text_of (told_lines brief history)
 
 -- the text is that of the script that is made from this start, for so many seats and of so many lines

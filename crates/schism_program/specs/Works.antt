@@ -13,7 +13,7 @@ use Rattle.schism_program.specs.Verdict.{FindsIllegal, FindsLegal, IsLegalText}
 
 -- the work can be done with the input: it is a script, or a legal history, of a play where space is planned; a script is made of none
 abbrev pub Suits : Work → List ℕ → Type 0
-Suits (Play pace brief) input = IsScriptText forms.Play input
+Suits (Play pace brief press) input = IsScriptText forms.Play input
 Suits (Run pace locked patience) input = IsScriptText forms.Run input
 Suits Check input = IsLegalText input
 Suits Plan input = IsPlayText input
@@ -21,7 +21,7 @@ Suits (Make start seats lines) input = Unit {0}
 
 -- the work makes this text of the input
 abbrev pub MakesText : Work → List ℕ → List ℕ → Type 0
-MakesText (Play pace brief) input text = Plays (is_some pace) brief input text
+MakesText (Play pace brief press) input text = Plays press (is_some pace) brief input text
 MakesText (Run pace locked patience) input text = Runs locked input text
 MakesText Check input text = FindsLegal input text
 MakesText Plan input text = PlansSpace input text
@@ -29,7 +29,7 @@ MakesText (Make start seats lines) input text = IsMadeText start seats lines tex
 
 -- the input is refused at this line for this cause: its first fault as a script or a history; for a plan also that it is of a run
 abbrev pub FailsAt : Work → List ℕ → ℕ → Cause → Type 0
-FailsAt (Play pace brief) input line cause = FailsAsScript forms.Play input line cause
+FailsAt (Play pace brief press) input line cause = FailsAsScript forms.Play input line cause
 FailsAt (Run pace locked patience) input line cause = FailsAsScript forms.Run input line cause
 FailsAt Check input line cause = first_history_fault input ≡ Some (record { line = line; cause = cause })
 FailsAt Plan input line cause = FailsAsPlay input line cause

@@ -5,7 +5,7 @@ ghost use Rattle.script_text.specs.declared.script.Form.TheVariants.{Play};
 ghost use Rattle.script_text.specs.Grammar.{IsScript};
 ghost use Rattle.script_text.specs.Writing.{IsOfForm};
 ghost use Rattle.script_text.specs.Text.{text_of};
-ghost use Rattle.schism_program.specs.Serving.{told_lines, FailsAsScript, IsMadeText, Plays};
+ghost use Rattle.schism_program.specs.Serving.{told_lines, FailsAsScript, IsMadeText, IsPlayBy, Plays};
 ghost use Rattle.schism_program.specs.Works.{FailsAt, IsIllegalAt, LeavesTable, MakesText};
 
 use crate::fault::WorkFault;
@@ -16,7 +16,7 @@ use crate::table_run::run_on_table;
 use crate::verdict::verdict;
 use form_words::{PaceName, Work};
 use heap_model::{Gate, Memory};
-use heap_runs::{MachineHeap, play};
+use heap_runs::{MachineHeap, play, play_pressed};
 use reply_text::{History, render_brief, render_history};
 use script_text::{Form, Script, make_script, read_script, write_script};
 use slack_pace::{Pace, Paces};
@@ -49,22 +49,42 @@ fn told_text(alloc: Global, history: &History, brief: bool) -> Result<Vec<u8>, M
     }
 }
 
+/// The history of a play of the script. Where it presses, seats collect where they are refused.
+fn played(
+    alloc: Global,
+    script: &Script,
+    pace: Option<Box<dyn Pace>>,
+    press: bool,
+) -> Result<History, Memory>
+    requires form { IsOfForm Play script.now }
+    ensures played { IfOk result (IsPlayBy press (is_some pace) script.now) }
+    ensures play { IfOk result (λ history. history.form ≡ Play) }
+    ensures marked { IfOk result (λ history. IsSome history.mark) }
+{
+    let whole = MachineHeap::make(alloc, script.heap)?;
+    if press {
+        play_pressed(whole, script.heap, script, pace)
+    } else {
+        play(whole, script.heap, script, pace)
+    }
+}
+
 /// The text that tells the play of the script that the input is. Input and script are dropped as soon as they were used, so that they don't stand beside the text.
 fn played_text(
     alloc: Global,
     input: Vec<u8>,
     pace: Option<Box<dyn Pace>>,
     brief: bool,
+    press: bool,
 ) -> Result<Vec<u8>, WorkFault>
-    ensures ok { IfOk result (λ text. Plays (is_some pace) brief input.items text.items) }
+    ensures ok { IfOk result (λ text. Plays press (is_some pace) brief input.items text.items) }
     ensures refused { (fault : ALineFault) → result ≡ Err (WorkFault.Refused fault) →
         FailsAsScript Play input.items fault.line fault.cause }
     ensures legal { (line : ℕ) → result ≡ Err (WorkFault.NotLegal line) → ⊥ }
 {
     let script = script_of(alloc, &input, Form::Play)?;
     drop(input);
-    let whole = MachineHeap::make(alloc, script.heap)?;
-    let history = play(whole, script.heap, &script, pace)?;
+    let history = played(alloc, &script, pace, press)?;
     drop(script);
     let text = told_text(alloc, &history, brief)?;
     Ok(text)
@@ -117,15 +137,20 @@ pub fn made_work<G: Gate, R: Threads + Wait + Sync>(
         IsIllegalAt work input.items line }
 {
     match work {
-        Work::Play { pace: None, brief } => {
-            let text = played_text(alloc, input, None, brief)?;
+        Work::Play {
+            pace: None,
+            brief,
+            press,
+        } => {
+            let text = played_text(alloc, input, None, brief, press)?;
             Ok(text_alone(text))
         }
         Work::Play {
             pace: Some(pace),
             brief,
+            press,
         } => {
-            let text = played_text(alloc, input, Some(chosen(paces, pace)), brief)?;
+            let text = played_text(alloc, input, Some(chosen(paces, pace)), brief, press)?;
             Ok(text_alone(text))
         }
         Work::Run {

@@ -1,6 +1,6 @@
 //! Plays in which seats collect: a collect makes the turns itself, and its seat answers the phases that begin.
 
-use super::several_seats::plays;
+use super::several_seats::{plays, plays_by};
 use std::test::Fail;
 
 /// A script, the history of its play, and how many entries that has. Lines stand with "; " between them.
@@ -64,6 +64,27 @@ const SILENT: (&str, &str, &str) = (
     "history 1 play; heap 1 0 2; c phase 1; 0 answers 1; 0 collect = waits 1 answered 0 phase 1; 0 collect = waits 1 answered 0 phase 1; space used 11 of 16 spine 0 of 0; 0 leave = ok; 1 leave = ok; c phase 2; c phase 3; c phase 4; c phase 5; c frees 11; c phase 6; c ends 0 kept 0; c phase 8; c phase 9; c phase 10; c phase 11; c phase 12; c phase 13; c ends 1 kept 0; end used 0",
     "legal 20",
 );
+
+// The play of the scattered fragments without its collect: where seats collect when they are refused, the record is refused once, and
+// then it takes just these two fragments.
+const MAKES_ROOM: (&str, &str, &str) = (
+    "schism 1; heap 1 0 1; 0 new 1 2; 0 new 2 2; 0 new 3 2; 0 new 4 2; 0 new 5 2; 0 nil 2; 0 nil 4; 0 new 6 5",
+    "history 1 play; heap 1 0 1; 0 takes 5; 0 new 1 2 = 0.0; 0 new 2 2 = 0.1; 0 new 3 2 = 0.2; 0 new 4 2 = 0.3; 0 new 5 2 = 0.4; 0 nil 2 = ok; 0 nil 4 = ok; 0 new 6 5 = full need 2 found 0; c phase 1; 0 answers 1; c phase 2; 0 answers 2; c phase 3; 0 answers 3; c phase 4; 0 answers 4; c phase 5; 0 answers 5; c frees 2; c phase 6; 0 answers 6; c ends 0 kept 14; 0 collect = cycle 0; 0 takes 2; 0 new 6 5 = 0.5; space used 16 of 16 spine 0 of 0; 0 leave = ok; c phase 8; c phase 9; c phase 10; c phase 11; c phase 12; c frees 16; c phase 13; c ends 1 kept 0; end used 0",
+    "legal 35",
+);
+
+// Sixteen fragments are more than the heap has beside the board, and stay so: the last reply is the refusal again.
+const MAKES_NONE: (&str, &str, &str) = (
+    "schism 1; heap 1 0 1; 0 new 1 47",
+    "history 1 play; heap 1 0 1; 0 takes 5; 0 gives back 5; 0 new 1 47 = full need 16 found 5; c phase 1; 0 answers 1; c phase 2; 0 answers 2; c phase 3; 0 answers 3; c phase 4; 0 answers 4; c phase 5; 0 answers 5; c phase 6; 0 answers 6; c ends 0 kept 11; 0 collect = cycle 0; 0 takes 5; 0 gives back 5; 0 new 1 47 = full need 16 found 5; space used 11 of 16 spine 0 of 0; 0 leave = ok; c phase 8; c phase 9; c phase 10; c phase 11; c phase 12; c frees 11; c phase 13; c ends 1 kept 0; end used 0",
+    "legal 29",
+);
+
+#[test]
+fn plays_presses(rt: HostRuntime) -> Result<(), Fail> {
+    let rows = [MAKES_ROOM, MAKES_NONE];
+    plays_by(&rt, rt.alloc(), &["play", "--press"], &rows)
+}
 
 #[test]
 fn plays_collects(rt: HostRuntime) -> Result<(), Fail> {

@@ -82,10 +82,20 @@ pub(super) fn plays(
     alloc: Global,
     rows: &[(&str, &str, &str)],
 ) -> Result<(), Fail> {
+    plays_by(rt, alloc, &["play"], rows)
+}
+
+/// So it does by these words.
+pub(super) fn plays_by(
+    rt: &(impl Abort + Threads + Wait + Sync),
+    alloc: Global,
+    words: &[&str],
+    rows: &[(&str, &str, &str)],
+) -> Result<(), Fail> {
     for &(script, history, verdict) in rows {
         let script = text_of(alloc, script)?;
         let history = text_of(alloc, history)?;
-        let played = ended(rt, alloc, &["play"], script.as_bytes(), &[], &[])?;
+        let played = ended(rt, alloc, words, script.as_bytes(), &[], &[])?;
         tells(rt, &played, Status::Done, history.as_bytes(), &script);
         let told = ended(rt, alloc, &["check"], history.as_bytes(), &[], &[])?;
         let verdict = text_of(alloc, verdict)?;
