@@ -31,6 +31,7 @@ impl<H: PlayHeap> Caller for PressedHeap<H> {
 
     fn call(&mut self, seat: u8, command: &Command) -> Result<Reply, Memory> {
         let reply = self.whole.call(seat, command)?;
+        // What was told is a play: `entries` says so, and no call does.
         let _ = self.whole.entries();
         Ok(reply)
     }
