@@ -14,6 +14,8 @@ use Rattle.press_alloc.specs.Calls.{IsNoReply, MovesNothing, AddsCall}
 use Rattle.press_alloc.specs.Presses.{IsPressed}
 use Rattle.heap_runs.specs.Play.{ComesFirst, TellsInCollect}
 use Rattle.heap_runs.specs.PlayHeap.{PlayState, AnswersCall}
+use Rattle.heap_runs.specs.Playing.{NotesCommand}
+use Rattle.heap_runs.specs.Pressed.{PressesCommand}
 use Rattle.heap_runs.proofs.Told.{tells_call}
 
 -- what is told while a seat collects is no reply, and takes or gives back nothing
@@ -79,7 +81,7 @@ adds_call_of_play old new number command reply answers =
     }
 
 -- the entries of a press are those that it found, and more
-pub entries_of_press : (old new : List Entry) (number : ℕ) (command : Command) (reply : Reply) → IsPressed AddsCall old new number command reply → (added : List Entry) × (new ≡ old ++ added)
+entries_of_press : (old new : List Entry) (number : ℕ) (command : Command) (reply : Reply) → IsPressed AddsCall old new number command reply → (added : List Entry) × (new ≡ old ++ added)
 entries_of_press old new number command reply (inl once) = (_, once.0.told)
 entries_of_press old new number command reply (inr again) = (
   _,
@@ -87,6 +89,9 @@ entries_of_press old new number command reply (inr again) = (
       ∙ append_assoc (old ++ (again.first.before ++ entries.Said number command again.refusal ∷ [])) (again.collects.before ++ entries.Said number commands.Collect again.answer ∷ []) (again.again.before ++ entries.Said number command reply ∷ [])
       ∙ append_assoc old (again.first.before ++ entries.Said number command again.refusal ∷ []) ((again.collects.before ++ entries.Said number commands.Collect again.answer ∷ []) ++ (again.again.before ++ entries.Said number command reply ∷ [])),
 )
+
+pub notes_press : (old new : PlayState) (number : ℕ) (command : Command) (reply : Reply) → IsPressed AddsCall old.entries new.entries number command reply → PressesCommand old new number command reply → NotesCommand PressesCommand old new number command
+notes_press old new number command reply adds presses = let more = entries_of_press old.entries new.entries number command reply adds in record { reply = reply; answers = presses; added = more.0; told = more.1 }
 
 -- what each call of a press did is done where the press is seen otherwise
 pub press_seen_as : {Whole Other : Type 0} (seen : Whole → Other) (Calls : Whole → Whole → ℕ → Command → Reply → Type 0) (Does : Other → Other → ℕ → Command → Reply → Type 0)
