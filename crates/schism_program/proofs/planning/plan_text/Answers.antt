@@ -1,0 +1,33 @@
+use Rattle.std.proofs.Common.{rules}
+use Rattle.log_merge.specs.Legal.{IsLegalHistory}
+use Rattle.log_merge.specs.Lines.{IsFirstIllegal}
+use Rattle.schism_program.proofs.planning.plan_text.Goals as goal
+
+pub returns-in_err-report-clause-not_legal : goal.returns-in_err-report-clause-not_legal
+returns-in_err-report-clause-not_legal c = λ line is.
+    let history = c.in_ok-history.history in
+    let first : IsFirstIllegal history line = search rules in
+    let illegal : ¬ IsLegalHistory history = search rules in
+    record {
+      finds = record { history = history; spelled = c.in_ok-history.ensures.ok; first = first; illegal = illegal };
+      play = c.in_ok-history.ensures.play;
+    }
+
+pub returns-clause-ok : goal.returns-clause-ok
+returns-clause-ok c =
+    let plans = c.in_ok-report.ensures in
+    record {
+      is = record { history = c.in_ok-history.history; spelled = c.in_ok-history.ensures.ok; play = c.in_ok-history.ensures.play; legal = plans.legal };
+      report = c.in_ok-report.report;
+      planned = record {
+        cycles = plans.cycles;
+        reach = plans.reach;
+        takes = plans.takes;
+        need = plans.need;
+        groups = plans.groups;
+        turns = plans.turns;
+        full = plans.full;
+        enough = plans.enough;
+      };
+      told = c.in_ok-text.ensures;
+    }
