@@ -11,7 +11,7 @@ use Rattle.heap_model.specs.declared.entry.Entry.{Entry}
 use Rattle.heap_model.specs.declared.entry.Entry.TheVariants.{Said}
 use Rattle.heap_model.specs.declared.reply.Reply.{Reply}
 use Rattle.core_machine.specs.declared.seat.looks.Looks.{Looks}
-use Rattle.core_machine.specs.seat.Looks.{looked, MayNote, noted_reply}
+use Rattle.core_machine.specs.seat.Looks.{looked, noted_reply}
 use Rattle.heap_table.specs.SeatHeld.{SeatHeld}
 use Rattle.mutator_seat.specs.InnerCalls.{MakesInner}
 use Rattle.mutator_seat.specs.Resting.{MakesRoom}

@@ -1,8 +1,7 @@
 -- How a seat goes on with its script, by what its own entries tell.
 use Rattle.std.proofs.Common.{◌≡◌, ◌≢◌, ℕ, ◌+◌, ◌*◌, ◌<◌, ◌≤◌, List, [], ◌∷◌, ◌++◌, length, take, refl, sym, ap, subst, ◌∙◌, inl, inr, append_assoc, append-nil, length-append, arith}
 use Rattle.std.specs.Prelude.{slice_index_or}
-use Rattle.std.proofs.lemmas.List.{length-take-le, take_more, take_all}
-use Rattle.heap_model.specs.Limits.{name_limit, stamp_limit}
+use Rattle.std.proofs.lemmas.List.{take_more}
 use Rattle.heap_model.specs.Needs.{need_of}
 use Rattle.heap_model.specs.calls.SeatCalls.{HasNumber, IsReady}
 use Rattle.heap_model.specs.calls.SeatState.{own_graph_seat}
@@ -14,21 +13,17 @@ use Rattle.heap_model.specs.declared.command.Command.TheVariants as commands
 use Rattle.heap_model.specs.declared.entry.Entry.{Entry}
 use Rattle.heap_model.specs.declared.entry.Entry.TheVariants.{Said}
 use Rattle.heap_model.specs.declared.reply.Reply.{Reply}
-use Rattle.heap_model.specs.declared.reply.Reply.TheVariants.{Done}
 use Rattle.heap_model.specs.graph.Graph.{GraphSeat}
 use Rattle.heap_model.specs.runs.Told.{commands_told, waits_told}
 use Rattle.heap_model.proofs.call_lemmas.SeatGrowth.{call_makes_one_at_most, call_stamps_once_at_most}
-use Rattle.core_machine.specs.calls.Kept.{Kept}
-use Rattle.core_machine.specs.seat.Commands.{IsServed}
 use Rattle.core_machine.specs.seat.Looks.{noted_reply}
 use Rattle.heap_table.specs.SeatHeld.{SeatHeld}
 use Rattle.mutator_seat.specs.Calls.{MakesCall}
 use Rattle.mutator_seat.specs.Resting.{seat_state, MakesRoom}
 use Rattle.mutator_seat.proofs.Entries.{call_adds_its_entries}
-use Rattle.mutator_seat.proofs.Replied.{done_call_is_made}
 use Rattle.heap_record.proofs.TellsOne.{commands_told_of_append, waits_told_of_append, waits_of, tells_one_of_call}
 use Rattle.heap_runs.specs.CollectCall.{IsPresent, IsCauseOf, AnswersCollect}
-use Rattle.heap_runs.specs.SeatWork.{IsOfScript, objects_of, sets_of, MayWork, MayMakeNext, IsPaidSince, HasMade, GoesOn, HasWorked}
+use Rattle.heap_runs.specs.SeatWork.{MayMakeNext, IsPaidSince, HasMade, GoesOn}
 use Rattle.heap_runs.proofs.LooksOn.{looks_around_by_room, own_graph_seat_stays, is_present_still}
 use Rattle.heap_runs.proofs.SeatTells.{tells_one_collect}
 

@@ -5,11 +5,10 @@ use Rattle.std.proofs.lemmas.List.{length-take, take-append-le, drop-append-le}
 use Rattle.std.proofs.lemmas.List.Folds.{list_all-append}
 use Rattle.heap_model.specs.account.Turned.{is_of_heap}
 use Rattle.atomic_table.specs.Seated.{TableId}
-use Rattle.heap_model.specs.calls.CollectorCalls.{CollectorState, StepsTo, ComesTo, Turns}
+use Rattle.heap_model.specs.calls.CollectorCalls.{CollectorState, ComesTo, Turns}
 use Rattle.heap_model.specs.declared.calls.collector_calls.Turn.{Turn}
 use Rattle.heap_model.specs.declared.calls.collector_calls.Turn.TheVariants as turns
 use Rattle.heap_model.specs.declared.entry.Entry.{Entry}
-use Rattle.heap_model.specs.declared.entry.Entry.TheVariants as entries
 use Rattle.heap_model.specs.declared.entry.Entry.TheVariants.{Ends}
 use Rattle.heap_model.specs.declared.heap.Heap.{Heap}
 use Rattle.collector_turns.specs.Collector.{CollectorValue, state_of}
