@@ -2,8 +2,9 @@
 use Rattle.std.specs.Prelude.{◌≡◌, ℕ, ◌+◌, ◌≤◌, List, [], length, Option}
 use Rattle.form_words.specs.declared.work.Work.{Work}
 use Rattle.form_words.specs.declared.work.Work.TheVariants.{Make}
-use Rattle.form_words.specs.Works.{most_bytes, AskFor, HasInput}
+use Rattle.form_words.specs.Works.{most_bytes, AskFor, HasInput, IsForm}
 use Rattle.script_text.specs.declared.cause.Cause.{Cause}
+use Rattle.io_edge.specs.Faults.{Rose}
 use Rattle.io_edge.specs.Left.{GivesAll, LosesNext, LosesUpTo}
 use Rattle.io_edge.specs.Taken.{Takes, TakesFront}
 use Rattle.schism_program.specs.declared.status.Status.{Status}
@@ -31,22 +32,14 @@ pub record Writes (IsWritten : List ℕ → Type 0) (words : List (List ℕ)) (l
   pub makes : MakesText work input text
   pub written : IsWritten text
 
--- all was read, and the text that the work makes of it was written
-abbrev pub WritesAll : List (List ℕ) → Option (List ℕ) → Option (List ℕ) → Option (List ℕ) → Option (List ℕ) → Type 0
-WritesAll words left left' taken taken' = Writes (Takes taken taken') words left left'
-
 -- all was read, and a front of the text that the work makes of it was written
 abbrev pub WritesFront : List (List ℕ) → Option (List ℕ) → Option (List ℕ) → Option (List ℕ) → Option (List ℕ) → Type 0
 WritesFront words left left' taken taken' = Writes (TakesFront taken taken') words left left'
 
 -- all was read, the text that the work makes of it was written, and of a run without the lock the closed table is left, whose run the text tells
-pub record LeavesAll (words : List (List ℕ)) (left left' taken taken' : Option (List ℕ)) (closed : Option ClosedTable) : Type 0 where
-  pub work : Work
-  pub input : List ℕ
-  pub text : List ℕ
-  pub reads : ReadsInput words left left' work input
-  pub written : Takes taken taken' text
-  pub leaves : LeavesTable work input text closed
+pub record WritesAll (words : List (List ℕ)) (left left' taken taken' : Option (List ℕ)) (closed : Option ClosedTable) : Type 0 where
+  pub all : Writes (Takes taken taken') words left left'
+  pub leaves : LeavesTable all.work all.input all.text closed
 
 -- all was read, and this line is refused
 pub record IsRefusedAt (words : List (List ℕ)) (left left' : Option (List ℕ)) (line : ℕ) (cause : Cause) : Type 0 where
@@ -79,6 +72,26 @@ pub record ReadsNoMore (words : List (List ℕ)) (left left' : Option (List ℕ)
   pub work : Work
   pub asked : AskFor words work
   pub lost : IsReadUpTo work left left'
+
+-- what a status says of the words, of what was read and written, and of the table that is left
+abbrev pub Says : List (List ℕ) → Option (List ℕ) → Option (List ℕ) → Option (List ℕ) → Option (List ℕ) → Option ClosedTable → Status → Type 0
+Says words left left' taken taken' closed statuses.Done = WritesAll words left left' taken taken' closed
+Says words left left' taken taken' closed (statuses.Refused line cause) = IsRefusedAt words left left' line cause
+Says words left left' taken taken' closed (statuses.NotLegal line) = IsNotLegal words left left' line
+Says words left left' taken taken' closed statuses.TooLong = ReadsTooMuch words left left'
+Says words left left' taken taken' closed statuses.WriteFault = WritesFront words left left' taken taken'
+Says words left left' taken taken' closed statuses.Usage = ¬ IsForm words
+Says words left left' taken taken' closed _ = Unit {0}
+
+-- the source's count of faults rose where the status tells so, and else it is as it was
+abbrev pub CountsReads : Status → ℕ → ℕ → Type 0
+CountsReads statuses.ReadFault old new = Rose old new
+CountsReads _ old new = new ≡ old
+
+-- the sink's count of faults rose where the status tells so, and else it is as it was
+abbrev pub CountsWrites : Status → ℕ → ℕ → Type 0
+CountsWrites statuses.WriteFault old new = Rose old new
+CountsWrites _ old new = new ≡ old
 
 -- the statuses after which something was written
 abbrev pub IsWriting : Status → Type 0

@@ -1,10 +1,9 @@
-ghost use Rattle.std.specs.Prelude.{◌≡◌, ◌≢◌, ℕ, ◌⊎◌, None, map};
-ghost use Rattle.script_text.specs.declared.cause.Cause.{Cause};
+ghost use Rattle.std.specs.Prelude.{◌≡◌, ◌≢◌, ◌⊎◌, None, map};
 ghost use Rattle.form_words.specs.Works.{AskFor, IsForm, HasInput};
 ghost use Rattle.form_words.specs.declared.work.Work.{Work as AWork};
 ghost use Rattle.io_edge.specs.Faults.{Rose};
 ghost use Rattle.schism_program.specs.Due.{IsDue};
-ghost use Rattle.schism_program.specs.Outcome.{IsNotLegal, IsRefusedAt, LeavesAll, IsWriting, ReadsNoMore, ReadsTooMuch, WritesAll, WritesFront};
+ghost use Rattle.schism_program.specs.Outcome.{CountsReads, CountsWrites, IsWriting, ReadsNoMore, Says};
 
 use crate::fault::WorkFault;
 use crate::input::read_input;
@@ -42,30 +41,12 @@ pub fn schism<S: Source, K: Sink, G: Gate, R: Threads + Wait + Sync>(
     gate: &G,
     closed: &mut Option<Closed>,
 ) -> Status
-    ensures usage { result ≡ Status.Usage → ¬ IsForm (map (λ w. w.now) words.now) }
+    ensures says { Says (map (λ w. w.now) words.now)
+        (S.left source.old) (S.left source.new) (K.taken sink.old) (K.taken sink.new) closed.new result }
     ensures formless { ¬ IsForm (map (λ w. w.now) words.now) → (result ≡ Status.Usage) ⊎ (result ≡ Status.Memory) }
     ensures unread { ¬ IsForm (map (λ w. w.now) words.now) → source.new ≡ source.old }
     ensures untouched { (work : AWork) → AskFor (map (λ w. w.now) words.now) work → ¬ HasInput work →
         source.new ≡ source.old }
-    ensures done { result ≡ Status.Done → WritesAll (map (λ w. w.now) words.now)
-        (S.left source.old) (S.left source.new) (K.taken sink.old) (K.taken sink.new) }
-    ensures refused { (line : ℕ) (cause : Cause) → result ≡ Status.Refused line cause →
-        IsRefusedAt (map (λ w. w.now) words.now) (S.left source.old) (S.left source.new) line cause }
-    ensures not_legal { (line : ℕ) → result ≡ Status.NotLegal line →
-        IsNotLegal (map (λ w. w.now) words.now) (S.left source.old) (S.left source.new) line }
-    ensures too_long { result ≡ Status.TooLong →
-        ReadsTooMuch (map (λ w. w.now) words.now) (S.left source.old) (S.left source.new) }
-    ensures read_fault { result ≡ Status.ReadFault →
-        Rose (S.faults source.old) (S.faults source.new) }
-    ensures write_fault { result ≡ Status.WriteFault →
-        Rose (K.faults sink.old) (K.faults sink.new) }
-    ensures front { result ≡ Status.WriteFault → WritesFront (map (λ w. w.now) words.now)
-        (S.left source.old) (S.left source.new) (K.taken sink.old) (K.taken sink.new) }
-
-    // The table on which a run went without the lock is left where all is done, and else none is.
-    ensures unclosed { result ≢ Status.Done → closed.new ≡ None }
-    ensures closed { result ≡ Status.Done → LeavesAll (map (λ w. w.now) words.now)
-        (S.left source.old) (S.left source.new) (K.taken sink.old) (K.taken sink.new) closed.new }
 
     // What words and input call for comes where no fault was counted, unless memory is wanting.
     ensures complete { (status : Status) →
@@ -78,8 +59,9 @@ pub fn schism<S: Source, K: Sink, G: Gate, R: Threads + Wait + Sync>(
     ensures most { IsForm (map (λ w. w.now) words.now) → result ≢ Status.TooLong →
         ReadsNoMore (map (λ w. w.now) words.now) (S.left source.old) (S.left source.new) }
     ensures unwritten { ¬ IsWriting result → sink.new ≡ sink.old }
-    ensures read_count { result ≢ Status.ReadFault → S.faults source.new ≡ S.faults source.old }
-    ensures write_count { result ≢ Status.WriteFault → K.faults sink.new ≡ K.faults sink.old }
+    ensures unclosed { result ≢ Status.Done → closed.new ≡ None }
+    ensures read_count { CountsReads result (S.faults source.old) (S.faults source.new) }
+    ensures write_count { CountsWrites result (K.faults sink.old) (K.faults sink.new) }
 {
     leave(closed, None);
     let work = match Work::of(alloc, words) {

@@ -1,67 +1,88 @@
-use Rattle.std.proofs.Common.{◌≤◌, ℕ, List, Option, length, map, inl, rules, subst, sym}
+use Rattle.std.proofs.Common.{◌≡◌, ◌≤◌, ℕ, List, Option, Some, Err, Vec, Global, length, inl, ap, subst, sym}
+use Rattle.std.specs.Prelude.{IfSome, vec_len}
 use Rattle.form_words.specs.declared.work.Work.{Work}
 use Rattle.form_words.specs.Works.{most_bytes, AskFor}
 use Rattle.schism_program.specs.declared.status.Status.TheVariants as statuses
-use Rattle.schism_program.specs.Due.{IsDueTo}
-use Rattle.schism_program.specs.Outcome.{IsRead, Writes}
-use Rattle.schism_program.specs.Works.{FailsAt, LeavesTable, MakesText}
+use Rattle.schism_program.specs.Outcome.{IsRead, ReadsInput}
+use Rattle.schism_program.specs.Works.{LeavesTable}
 use Rattle.schism_program.proofs.OneStatus.{made_input_suits_work, only_one_status_is_due}
 use Rattle.schism_program.proofs.top.schism.Goals as goal
+
+asked_for : {words : List (List ℕ)} → (found : Option Work) → (work : Work) → found ≡ Some work → IfSome found (AskFor words) → AskFor words work
+asked_for found work is asked = rw is at asked
+
+short_input : (work : Work) → (input : Vec ℕ Global) → vec_len input ≤ most_bytes work → length input.items ≤ most_bytes work
+short_input work input within = subst (λ n. n ≤ most_bytes work) input.ok.0 within
+
+-- the work that was found is asked for, and its input was read
+reads : {words : List (List ℕ)} → {left left' : Option (List ℕ)} → (found : Option Work) → (work : Work) → (input : Vec ℕ Global) → found ≡ Some work → IfSome found (AskFor words) → IsRead work left left' input.items → vec_len input ≤ most_bytes work → ReadsInput words left left' work input.items
+reads found work input is asked all within = record { asked = asked_for found work is asked; all = all; short = short_input work input within }
+
+pub returns-in-Err-TooLong-clause-says : goal.returns-in-Err-TooLong-clause-says
+returns-in-Err-TooLong-clause-says g c =
+    let long = c.in-Err-TooLong.ensures.too_long (ap Err c.in-Err-TooLong.field-0-is) in
+    record { work = c.in-Ok-Some.work; asked = asked_for c.in-Ok-Some.field-0 c.in-Ok-Some.work c.in-Ok-Some.field-0-is c.in-Ok-Some.ensures.some; reads = long.0; lost = long.1 }
+
+pub returns-in-Err-Refused-clause-says : goal.returns-in-Err-Refused-clause-says
+returns-in-Err-Refused-clause-says g c = record {
+  work = c.in-Ok-Some.work;
+  input = c.in-Ok.input.items;
+  reads = reads c.in-Ok-Some.field-0 c.in-Ok-Some.work c.in-Ok.input c.in-Ok-Some.field-0-is c.in-Ok-Some.ensures.some c.in-Ok.ensures.read c.in-Ok.ensures.within;
+  fails = c.in-Err-Refused.ensures.refused c.in-Err-Refused.field-0-0 (ap Err c.in-Err-Refused.field-0-is);
+}
+
+pub returns-in-Err-NotLegal-clause-says : goal.returns-in-Err-NotLegal-clause-says
+returns-in-Err-NotLegal-clause-says g c = record {
+  work = c.in-Ok-Some.work;
+  input = c.in-Ok.input.items;
+  reads = reads c.in-Ok-Some.field-0 c.in-Ok-Some.work c.in-Ok.input c.in-Ok-Some.field-0-is c.in-Ok-Some.ensures.some c.in-Ok.ensures.read c.in-Ok.ensures.within;
+  illegal = c.in-Err-NotLegal.ensures.not_legal c.in-Err-NotLegal.line (ap Err c.in-Err-NotLegal.field-0-is);
+}
+
+pub returns-in-Ok-write_all-clause-says : goal.returns-in-Ok-write_all-clause-says
+returns-in-Ok-write_all-clause-says g c =
+    let input = c.in-Ok.input.items in
+    let text = c.in-Ok-made_work.made.text.items in
+    record {
+      all = record {
+        work = c.in-Ok-Some.work;
+        input = input;
+        text = text;
+        reads = reads c.in-Ok-Some.field-0 c.in-Ok-Some.work c.in-Ok.input c.in-Ok-Some.field-0-is c.in-Ok-Some.ensures.some c.in-Ok.ensures.read c.in-Ok.ensures.within;
+        makes = c.in-Ok-made_work.ensures.ok;
+        written = rw c.deref.ensures.value at c.in-Ok-write_all.ensures.ok;
+      };
+      leaves = subst (LeavesTable c.in-Ok-Some.work input text) (sym c.leave-in-Ok-write_all.ensures) c.in-Ok-made_work.ensures.closed;
+    }
+
+pub returns-clause-says : goal.returns-clause-says
+returns-clause-says g c = record {
+  work = c.in-Ok-Some.work;
+  input = c.in-Ok.input.items;
+  text = c.in-Ok-made_work.made.text.items;
+  reads = reads c.in-Ok-Some.field-0 c.in-Ok-Some.work c.in-Ok.input c.in-Ok-Some.field-0-is c.in-Ok-Some.ensures.some c.in-Ok.ensures.read c.in-Ok.ensures.within;
+  makes = c.in-Ok-made_work.ensures.ok;
+  written = rw c.deref.ensures.value at c.in-Err-write_all.ensures.err;
+}
 
 pub returns-in-Err-Refused-clause-complete : goal.returns-in-Err-Refused-clause-complete
 returns-in-Err-Refused-clause-complete g c = λ status due calm_source calm_sink.
     let work = c.in-Ok-Some.work in
-    let asked : AskFor (map (λ w. w.now) c.args.words.now) work = search rules in
-    let input = c.in-Ok.input.items in
     let fault = c.in-Err-Refused.field-0-0 in
-    let short : length input ≤ most_bytes work = search rules in
-    let fails : FailsAt work input fault.line fault.cause = search rules in
-    inl (only_one_status_is_due _ _ _ work input (statuses.Refused fault.line fault.cause) status asked c.in-Ok.ensures.read (short, fails) due)
+    let fails = c.in-Err-Refused.ensures.refused fault (ap Err c.in-Err-Refused.field-0-is) in
+    inl (only_one_status_is_due _ _ _ work c.in-Ok.input.items (statuses.Refused fault.line fault.cause) status
+    (asked_for c.in-Ok-Some.field-0 work c.in-Ok-Some.field-0-is c.in-Ok-Some.ensures.some) c.in-Ok.ensures.read (short_input work c.in-Ok.input c.in-Ok.ensures.within, fails) due)
 
 pub returns-in-Err-NotLegal-clause-complete : goal.returns-in-Err-NotLegal-clause-complete
 returns-in-Err-NotLegal-clause-complete g c = λ status due calm_source calm_sink.
     let work = c.in-Ok-Some.work in
-    let asked : AskFor (map (λ w. w.now) c.args.words.now) work = search rules in
-    let input = c.in-Ok.input.items in
-    let found : IsDueTo work input (statuses.NotLegal c.in-Err-NotLegal.line) = search rules in
-    inl (only_one_status_is_due _ _ _ work input _ status asked c.in-Ok.ensures.read found due)
+    let illegal = c.in-Err-NotLegal.ensures.not_legal c.in-Err-NotLegal.line (ap Err c.in-Err-NotLegal.field-0-is) in
+    inl (only_one_status_is_due _ _ _ work c.in-Ok.input.items (statuses.NotLegal c.in-Err-NotLegal.line) status
+    (asked_for c.in-Ok-Some.field-0 work c.in-Ok-Some.field-0-is c.in-Ok-Some.ensures.some) c.in-Ok.ensures.read (short_input work c.in-Ok.input c.in-Ok.ensures.within, illegal) due)
 
 pub returns-in-Ok-write_all-clause-complete : goal.returns-in-Ok-write_all-clause-complete
 returns-in-Ok-write_all-clause-complete g c = λ status due calm_source calm_sink.
     let work = c.in-Ok-Some.work in
-    let asked : AskFor (map (λ w. w.now) c.args.words.now) work = search rules in
-    let input = c.in-Ok.input.items in
-    let short : length input ≤ most_bytes work = search rules in
-    let makes : MakesText work input c.in-Ok-made_work.made.text.items = search rules in
-    inl (only_one_status_is_due _ _ _ work input statuses.Done status asked c.in-Ok.ensures.read (short, made_input_suits_work work input _ makes) due)
-
-pub returns-in-Ok-write_all-clause-closed : goal.returns-in-Ok-write_all-clause-closed
-returns-in-Ok-write_all-clause-closed g c = λ done.
-    let input = c.in-Ok.input.items in
-    let text = c.in-Ok-made_work.made.text.items in
-    let leaves : LeavesTable c.in-Ok-Some.work input text c.in-Ok-made_work.made.closed = search rules in
-    record {
-      work = c.in-Ok-Some.work;
-      input = input;
-      text = text;
-      reads = record { asked = search rules; all = c.in-Ok.ensures.read; short = search rules };
-      written = search rules;
-      leaves = subst (LeavesTable c.in-Ok-Some.work input text) (sym c.leave-in-Ok-write_all.ensures) leaves;
-    }
-
--- what was read makes the text that was written
-writes : {IsWritten : List ℕ → Type 0} → {words : List (List ℕ)} → {left left' : Option (List ℕ)} → (work : Work) → (input text : List ℕ) → AskFor words work → IsRead work left left' input → length input ≤ most_bytes work → MakesText work input text → IsWritten text → Writes IsWritten words left left'
-writes work input text asked all short makes written = record {
-  work = work;
-  input = input;
-  text = text;
-  reads = record { asked = asked; all = all; short = short };
-  makes = makes;
-  written = written;
-}
-
-pub returns-in-Ok-write_all-clause-done : goal.returns-in-Ok-write_all-clause-done
-returns-in-Ok-write_all-clause-done g c = λ done. writes c.in-Ok-Some.work c.in-Ok.input.items c.in-Ok-made_work.made.text.items (search rules) c.in-Ok.ensures.read (search rules) (search rules) (search rules)
-
-pub returns-clause-front : goal.returns-clause-front
-returns-clause-front g c = λ fault. writes c.in-Ok-Some.work c.in-Ok.input.items c.in-Ok-made_work.made.text.items (search rules) c.in-Ok.ensures.read (search rules) (search rules) (search rules)
+    let suits = made_input_suits_work work c.in-Ok.input.items _ c.in-Ok-made_work.ensures.ok in
+    inl (only_one_status_is_due _ _ _ work c.in-Ok.input.items statuses.Done status
+    (asked_for c.in-Ok-Some.field-0 work c.in-Ok-Some.field-0-is c.in-Ok-Some.ensures.some) c.in-Ok.ensures.read (short_input work c.in-Ok.input c.in-Ok.ensures.within, suits) due)
