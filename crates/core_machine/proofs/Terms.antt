@@ -32,7 +32,7 @@ pub use Rattle.core_machine.specs.seat.Fits.{AnswersThePhase, AreFragments, Fits
 pub use Rattle.core_machine.specs.seat.FitsAccess.{FitsAccess, HasNoWay, IsAtField, IsGet, IsNowhere, IsSet, NamesField, NamesObject, SeatIsAtGet, SeatIsAtHead, SeatIsAtSentinel, SeatIsAtSet, WorksOnObject}
 pub use Rattle.core_machine.specs.seat.Making.{after_birth, after_budget, after_claim, after_gather, after_give_back, after_last_birth, after_listing, after_placing, after_shortage, after_store, before_run, first_group_of, fragments_gathered, gather_next, last_claimed, last_group_of, last_run, list_point, newborn_word, next_group_of, next_name, next_object_id, refusal_point, run_of, settled_point, store_point}
 pub use Rattle.core_machine.specs.seat.Registers.{heads_of, is_same_value, register_head, register_in, register_word, value_of}
-pub use Rattle.core_machine.specs.seat.Seat.{HasNumberLeft, Seat, absent_seat, after_call, call_over, need, no_spot, spine_need, with_entries, with_seen}
+pub use Rattle.core_machine.specs.seat.Seat.{HasNumberLeft, Seat, absent_seat, after_call, call_over, need, no_spot, spine_need, with_entries, with_held, with_seen}
 pub use Rattle.core_machine.specs.table.Decode.{FoundPointsWithin, IsWithinHeap, PointersWithin, id_of, plain_of, plain_register, spine_words_in}
 pub use Rattle.core_machine.specs.table.Fragments.{clear_in, in_group, is_clear, out_of_group, inside_group, outside_group, tally}
 unfoldable pub use Rattle.core_machine.specs.table.Fragments.{clear_among, mask_of}

@@ -60,7 +60,7 @@ pub use Rattle.core_rule.specs.cycle.Cycle.{HeapInCycle, SeatInCycle}
 pub use Rattle.core_rule.specs.cycle.Flight.{DeletionBarrier, FieldStands, Flight, IsRootMarked, RootsStand, ShadedStands, WhileAccess, WhilePolling, objects_before}
 pub use Rattle.core_rule.specs.cycle.Phases.{AnswerStands, AnswersAgree, Asks, CollectorAgrees, IsNear, PollingStands, answer_word}
 pub use Rattle.core_rule.specs.gather.Gathers.{Began, GathersRight, IsAnswered, free_in, free_in_all, free_in_passed}
-pub use Rattle.core_rule.specs.graph.Registers.{HoldsValue, IsAwaited, Registers}
+pub use Rattle.core_rule.specs.graph.Registers.{HoldsValue, IsAwaited, Registers, SeenStands, graph_stamps, stamps_at}
 pub use Rattle.core_rule.specs.halves.Halves.{AwaitsCopy, AwaitsVisit, HalvesStand, IsBeforeNext, IsEarlyRange, IsLeaving, IsLeftBehind, IsToVisit, WhileCopying, half_at, is_advancing}
 pub use Rattle.core_rule.specs.hand.Holding.{Holding, IsStored, fragments_in_hand}
 pub use Rattle.core_rule.specs.marking.Marking.{AfterMarking, ComesAfter, IsFewCopied, IsFewWords, IsKeptFragment, IsSeen, IsSeenWhole, IsSpineOf, MarkingStands, MayMark, PassStands, ScanStands}

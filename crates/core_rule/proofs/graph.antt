@@ -3,6 +3,7 @@ pub mod Numbering
 pub mod IdsGrowth
 pub mod SameNodes
 pub mod PutRegister
+pub mod SeenStamps
 pub mod SameValues
 pub mod ObjectReplies
 pub mod LocalReplies

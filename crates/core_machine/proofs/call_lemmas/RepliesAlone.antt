@@ -5,7 +5,7 @@ use Rattle.core_machine.proofs.Terms.{Command, Reply, Register, IsPlaceRefusal, 
 use Rattle.core_machine.proofs.Terms.{IsSet, NamesObject, IsLocal}
 use Rattle.heap_model.specs.declared.command.Command.TheVariants as commands
 use Rattle.heap_model.specs.declared.reply.Reply.TheVariants.{NoObject, NoField}
-use Rattle.core_machine.specs.seat.Local.{answer_of, local_reply_of, local_registers}
+use Rattle.core_machine.specs.seat.Local.{answer_of, local_reply_of, local_registers, local_seen}
 
 -- the command makes no object, asks for no phase, isn't a leave, and is a single call
 abbrev pub RepliesAlone : Command → Type 0
@@ -79,3 +79,10 @@ refusal_leaves_registers registers (commands.Num d n) refusal = absurd refusal
 refusal_leaves_registers registers (commands.Nil d) refusal = absurd refusal
 refusal_leaves_registers registers (commands.Copy d r) refusal = absurd refusal
 refusal_leaves_registers registers _ refusal = refl
+
+-- and the stamps under which they were seen
+pub refusal_leaves_seen : (registers : List Register) (seen : List ℕ) (command : Command) → IsPlaceRefusal (local_reply_of registers command) → local_seen seen command ≡ seen
+refusal_leaves_seen registers seen (commands.Num d n) refusal = absurd refusal
+refusal_leaves_seen registers seen (commands.Nil d) refusal = absurd refusal
+refusal_leaves_seen registers seen (commands.Copy d r) refusal = absurd refusal
+refusal_leaves_seen registers seen _ refusal = refl

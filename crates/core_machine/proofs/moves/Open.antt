@@ -46,7 +46,7 @@ fits_met : (heap : Heap) (seat : Seat) (found : ℕ) (reply : Option Reply) → 
     → IsWithinHeap heap (pointer_in 0 found) → Fits heap (after_meta seat found reply)
 fits_met heap seat found None rests is none led =
     fits_length heap seat found (array_length_of found) rests is (met_names seat.command found is.names none) led
-fits_met heap seat found (Some reply) rests is some led = fits_after_sets heap seat seat.registers seat.sets rests rests.fits.own.registers_whole rests.fits.own.registers_fit
+fits_met heap seat found (Some reply) rests is some led = fits_after_sets heap seat seat.registers seat.seen seat.sets rests rests.fits.own.registers_whole rests.fits.own.registers_fit
 
 nears_met : (heap : Heap) (number : ℕ) (seat : Seat) (found : ℕ) (reply : Option Reply)
     → Nears heap (with_entries (after_meta seat found reply) (reply_entries_if number seat reply)) 1 (row_of (field_of seat.command) + 7) (length (reply_entries_if number seat reply))

@@ -34,7 +34,10 @@ pub record IsGot (tells : Step → ℕ → Type 0) (command : Command) (before k
   pub register : Register
   pub held : IsHeldOf tells word register (head_of word)
   pub value_is : value ≡ value_of register
-  pub kept_is : kept ≡ kept_replied kept.looks.seen (record before { registers = slice_set before.registers (target_of command) register })
+  pub kept_is : kept ≡ kept_replied kept.looks.seen (record before {
+        registers = slice_set before.registers (target_of command) register;
+        seen = slice_set before.seen (target_of command) stamp;
+      })
 
 -- the field was reached and got the register's value: the seat has done one set more
 pub record IsSetTo (tells : Step → ℕ → Type 0) (number : ℕ) (command : Command) (before kept : Kept) (stamp : ℕ) : Type 0 where

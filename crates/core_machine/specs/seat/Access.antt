@@ -1,5 +1,5 @@
 -- How a seat goes on while it reads or writes an object: the way to the field, and what is done with it.
-use Rattle.std.specs.Prelude.{ℕ, ◌+◌, ◌-◌, ◌/◌, ◌%◌, ◌==◌, nat_lt, nat_le, Bool, false, if◌then◌else◌, Option, Some, None, slice_set}
+use Rattle.std.specs.Prelude.{ℕ, ◌+◌, ◌-◌, ◌/◌, ◌%◌, ◌==◌, nat_lt, nat_le, Bool, false, if◌then◌else◌, Option, Some, None}
 use Rattle.heap_words.specs.Spot.{spot_in}
 use Rattle.heap_model.specs.declared.command.Command.{Command}
 use Rattle.heap_model.specs.declared.command.Command.TheVariants as commands
@@ -13,10 +13,10 @@ use Rattle.core_machine.specs.declared.point.Access.TheVariants.{LoadingMeta, Wa
 use Rattle.core_machine.specs.declared.seat.register.Register.{Register}
 use Rattle.core_machine.specs.declared.seat.register.Register.TheVariants.{Nil, Number, Object}
 use Rattle.core_machine.specs.seat.Commands.{target_of, source_of, field_of}
-use Rattle.heap_words.specs.Loaded.{link_of, length_of, array_length_of, payload_in}
+use Rattle.heap_words.specs.Loaded.{link_of, stamp_of, length_of, array_length_of, payload_in}
 use Rattle.core_machine.specs.table.Decode.{plain_of}
 use Rattle.core_machine.specs.seat.Registers.{register_in, register_head}
-use Rattle.core_machine.specs.seat.Seat.{Seat, after_call}
+use Rattle.core_machine.specs.seat.Seat.{Seat, with_held, after_call}
 
 -- the row in which a record's field stands: 0 is the object's first fragment, 1 its second
 abbrev pub row_of : ℕ → ℕ
@@ -35,9 +35,9 @@ has_barrier_of seat =
 abbrev pub at_access : Seat → Access → Seat
 at_access seat point = record seat { point = points.Access point }
 
--- the command's register has another value, and the call is over
-abbrev pub with_register_filled : Seat → Register → Seat
-with_register_filled seat register = after_call (record seat { registers = slice_set seat.registers (target_of seat.command) register })
+-- the command's register has another value, seen under this stamp, and the call is over
+abbrev pub with_register_filled : Seat → Register → ℕ → Seat
+with_register_filled seat register stamp = after_call (with_held seat (target_of seat.command) register stamp)
 
 -- the way begins at the object's first fragment; without an object the reply is told at once
 abbrev pub access_start : Seat → Register → Seat
@@ -125,12 +125,12 @@ after_index seat found = at_access (at_payload seat found) (field_point_of (at_p
 
 -- a get's field was found: a number or nil stands in the register, a reference waits for its object's name
 abbrev pub after_get : Seat → ℕ → Option ℕ → Seat
-after_get seat found None = with_register_filled seat (plain_of found)
+after_get seat found None = with_register_filled seat (plain_of found) (stamp_of found)
 after_get seat found (Some head) = at_access (record seat { loaded = found }) Naming
 
 -- the name was found
 abbrev pub after_name : Seat → ℕ → Id → Seat
-after_name seat head id = with_register_filled seat (Object head id)
+after_name seat head id = with_register_filled seat (Object head id) (stamp_of seat.loaded)
 
 -- the new value is shaded where it is an object; then comes the swap
 abbrev pub new_point_of : Option ℕ → Access

@@ -1,5 +1,5 @@
 -- What the machine keeps of a seat. The seat's number is its position among the seats, and stands nowhere in it.
-use Rattle.std.specs.Prelude.{ℕ, ◌+◌, ◌<◌, Bool, true, List, [], ◌∷◌, ◌++◌}
+use Rattle.std.specs.Prelude.{ℕ, ◌+◌, ◌<◌, Bool, true, List, [], ◌∷◌, ◌++◌, slice_set}
 use Rattle.heap_words.specs.declared.spot.Spot.{Spot}
 use Rattle.heap_model.specs.declared.entry.Entry.{Entry}
 use Rattle.heap_model.specs.declared.entry.Entry.TheVariants.{Said}
@@ -22,6 +22,8 @@ no_spot = record { half = 0; offset = 0 }
 pub record Seat : Type 0 where
   -- the sixteen registers
   pub registers : List Register
+  -- under which stamp each was read from a field; 0 where it wasn't read from one
+  pub seen : List ℕ
   -- own fragments that no call uses, all of the cursor's group
   pub reserve : List ℕ
   -- the group at which the next gather begins
@@ -77,6 +79,7 @@ pub record Seat : Type 0 where
 abbrev pub absent_seat : Seat
 absent_seat = record {
   registers = [];
+  seen = [];
   reserve = [];
   cursor = 0;
   hand = [];
@@ -127,6 +130,10 @@ HasNumberLeft made sets commands.Poll = Unit {0}
 HasNumberLeft made sets commands.Collect = Unit {0}
 HasNumberLeft made sets commands.Leave = Unit {0}
 
+-- register d holds this, seen under this stamp
+abbrev pub with_held : Seat → ℕ → Register → ℕ → Seat
+with_held seat d register stamp = record seat { registers = slice_set seat.registers d register; seen = slice_set seat.seen d stamp }
+
 -- the seat has loaded this phase
 abbrev pub with_seen : ℕ → Seat → Seat
 with_seen found seat = record seat { looks = seen_phase found seat.looks }
@@ -135,6 +142,7 @@ with_seen found seat = record seat { looks = seen_phase found seat.looks }
 abbrev pub call_over : Seat → Seat
 call_over seat = record absent_seat {
   registers = seat.registers;
+  seen = seat.seen;
   reserve = seat.reserve;
   cursor = seat.cursor;
   command = seat.command;

@@ -26,6 +26,7 @@ use Rattle.core_rule.proofs.cycle.CycleHistory.{seat_in_cycle_after_own}
 use Rattle.core_rule.proofs.entries.Legality.{legal_after_entry, keeps_space_of_plain_said}
 use Rattle.core_rule.proofs.ways.KeptWords.{way_stands_at_field}
 use Rattle.core_rule.proofs.graph.SameNodes.{made_has_node}
+use Rattle.core_rule.proofs.graph.SeenStamps.{seen_of_same_registers}
 use Rattle.core_rule.proofs.objects.ObjectsSet.{are_made_after_set, same_shapes_after_set, found_word_is_old_cell, objects_after_set, same_unkept_after_set}
 use Rattle.core_rule.proofs.entries.PhaseEntries.{reply_is_no_leave}
 use Rattle.core_rule.proofs.steps.ReplyStep.{keeps_in_cycle_when_idle}
@@ -143,6 +144,7 @@ swap_keeps heap state book number rule here point machine =
       made = stands.told.counts.numbered ∙ sym sets.objects;
       sets = ap (λ s. s + 1) stands.told.counts.stamped ∙ sym sets.sets;
       left = sets.left ∙ stands.told.counts.leaves;
+      seen = seen_of_same_registers g number seat.seen (rw point at stands.told.counts.seen) now sets.registers;
       registers = λ r. subst (λ (vs : List Cell). HoldsValue book.made book.owner book.fragments (register_in seat.registers r) (get_or vs r unset).value) (sym sets.registers) (holds r);
     }
     (heap_in_cycle_after_swap heap state book number rule here point cell.value cell.stamp (holds (source_of seat.command)) names.0 small word is_word)
