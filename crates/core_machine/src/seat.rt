@@ -21,6 +21,7 @@ mod begins;
 mod birth;
 pub(crate) mod collecting;
 pub(crate) mod commands;
+mod compare;
 mod due;
 mod gather;
 mod hands;

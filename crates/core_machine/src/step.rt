@@ -56,6 +56,13 @@ pub enum AccessStep {
     Shade { fragment: u16 },
     /// A field gets another word.
     Swap { fragment: u16, part: u8, word: u64 },
+    /// A field gets the new word where it has the old one.
+    CompareSwap {
+        fragment: u16,
+        part: u8,
+        old: u64,
+        new: u64,
+    },
 }
 
 /// A step on spines. The loads are the collector's too.

@@ -50,6 +50,7 @@ module _ (tells : Step → ℕ → Type 0) where
       by false is = is
   local_stands heap number (commands.Get d r i) before kept local answers = answers
   local_stands heap number (commands.Set r i v) before kept local answers = answers
+  local_stands heap number (commands.Cas r i a v) before kept local answers = answers
   local_stands heap number (commands.Len r) before kept local answers = answers
   local_stands heap number _ before kept local answers = absurd local
 

@@ -18,7 +18,7 @@ use Rattle.core_machine.specs.machine.Calls.{IsBeside}
 use Rattle.core_machine.specs.seat.FitsHandshake.{IsLocal}
 use Rattle.core_machine.specs.seat.Local.{local_reply_of, local_registers, local_seen}
 pub use Rattle.core_machine.specs.calls.ObjectReplies.{IsMade, IsFull, IsSpineFull}
-pub use Rattle.core_machine.specs.calls.FieldReplies.{IsHeldOf, IsGot, IsSetTo, HasNoField, HasLength}
+pub use Rattle.core_machine.specs.calls.FieldReplies.{IsHeldOf, IsGot, IsSetTo, IsSwapped, HasOther, HasNoField, HasLength}
 
 -- the call looked at no word: the registers give the reply, and what they are after it
 pub record AnswersLocally (command : Command) (before kept : Kept) (reply : Reply) : Type 0 where
@@ -48,7 +48,8 @@ StandsOn tells heap number command before kept told replies.Yes = AnswersLocally
 StandsOn tells heap number command before kept told replies.No = AnswersLocally command before kept replies.No
 StandsOn tells heap number command before kept told (replies.Made id) = IsMade tells heap number command before kept told id
 StandsOn tells heap number command before kept told (replies.Got value stamp) = IsGot tells command before kept value stamp
-StandsOn tells heap number command before kept told (replies.Was stamp) = IsSetTo tells number command before kept stamp
+StandsOn tells heap number command before kept told (replies.Was stamp) = IsSetTo tells number command before kept stamp ⊎ IsSwapped tells number command before kept stamp
+StandsOn tells heap number command before kept told (replies.Now stamp) = HasOther tells number command before kept stamp
 StandsOn tells heap number command before kept told (replies.Length n) = HasLength tells command before kept n
 StandsOn tells heap number command before kept told (replies.Phase p) = HasPhase tells command before kept p
 StandsOn tells heap number command before kept told (replies.Cycle j) = ⊥

@@ -1,7 +1,7 @@
 -- The calls that look at no word: one load of the phase, at which their reply stands.
 use Rattle.std.specs.Prelude.{ℕ, Bool, if◌then◌else◌, List, slice_set}
 use Rattle.heap_model.specs.declared.command.Command.{Command}
-use Rattle.heap_model.specs.declared.command.Command.TheVariants.{New, Array, Get, Set, Num, Nil, Copy, Same, Len, Poll, Collect, Leave}
+use Rattle.heap_model.specs.declared.command.Command.TheVariants.{New, Array, Get, Set, Cas, Num, Nil, Copy, Same, Len, Poll, Collect, Leave}
 use Rattle.heap_model.specs.declared.reply.Reply.{Reply}
 use Rattle.heap_model.specs.declared.reply.Reply.TheVariants.{Done, Yes, No, NoObject}
 use Rattle.core_machine.specs.declared.seat.register.Register.{Register}
@@ -13,12 +13,13 @@ use Rattle.core_machine.specs.seat.Seat.{Seat, after_call}
 abbrev pub answer_of : Bool → Reply
 answer_of same = if same then Yes else No
 
--- the reply of a command that looks at no word: get, set and len do so where their register holds no object, and the others never
+-- the reply of a command that looks at no word: get, set, cas and len do so where their register holds no object, and the others never
 abbrev pub local_reply_of : List Register → Command → Reply
 local_reply_of registers (New d fields) = NoObject
 local_reply_of registers (Array d cells) = NoObject
 local_reply_of registers (Get d r i) = NoObject
 local_reply_of registers (Set r i v) = NoObject
+local_reply_of registers (Cas r i a v) = NoObject
 local_reply_of registers (Num d n) = Done
 local_reply_of registers (Nil d) = Done
 local_reply_of registers (Copy d r) = Done
@@ -34,6 +35,7 @@ local_registers registers (New d fields) = registers
 local_registers registers (Array d cells) = registers
 local_registers registers (Get d r i) = registers
 local_registers registers (Set r i v) = registers
+local_registers registers (Cas r i a v) = registers
 local_registers registers (Num d n) = slice_set registers d (held.Number n)
 local_registers registers (Nil d) = slice_set registers d held.Nil
 local_registers registers (Copy d r) = slice_set registers d (register_in registers r)
@@ -49,6 +51,7 @@ local_seen seen (New d fields) = seen
 local_seen seen (Array d cells) = seen
 local_seen seen (Get d r i) = seen
 local_seen seen (Set r i v) = seen
+local_seen seen (Cas r i a v) = seen
 local_seen seen (Num d n) = slice_set seen d 0
 local_seen seen (Nil d) = slice_set seen d 0
 local_seen seen (Copy d r) = slice_set seen d (seen_in seen r)
