@@ -48,6 +48,7 @@ module _ (tells : Step → ℕ → Type 0) (heap : Heap) (number : ℕ) where
   call_counts_by_reply command old seat first (replies.Got value stamp) is = counts_kept command old seat _ is.kept_is refl refl refl
   call_counts_by_reply command old seat first (replies.Was stamp) is =
       counted command old seat (omega (arith, ap (λ (k : Kept). k.made) is.kept_is)) (omega (arith, ap (λ (k : Kept). k.sets) is.kept_is)) (λ stays. ap (λ (k : Kept). k.left) is.kept_is)
+  call_counts_by_reply command old seat first (replies.Now stamp) is = absurd is
   call_counts_by_reply command old seat first (replies.Length n) is = counts_kept command old seat _ is.keeps refl refl refl
   call_counts_by_reply command old seat first (replies.Phase p) is = counts_kept command old seat _ is.kept_is refl refl refl
   call_counts_by_reply command old seat first (replies.Cycle j) is = absurd is
@@ -65,6 +66,7 @@ module _ (tells : Step → ℕ → Type 0) (heap : Heap) (number : ℕ) where
   leave_done before kept first (replies.Made id) is = absurd is.an_object
   leave_done before kept first (replies.Got value stamp) is = absurd is.a_get
   leave_done before kept first (replies.Was stamp) is = absurd is.a_set
+  leave_done before kept first (replies.Now stamp) is = absurd is
   leave_done before kept first (replies.Length n) is = absurd (differ is.register is.a_len)
     where
       differ : (r : ℕ) → commands.Leave ≡ commands.Len r → ⊥

@@ -61,6 +61,7 @@ module _ (tells : Step → ℕ → Type 0) (heap : Heap) (number : ℕ) (command
   reply_is_no_object (replies.Made id) is none = absurd (no_maker command names is.an_object)
   reply_is_no_object (replies.Got value stamp) is none = reached_held is.reached is.part is.field none
   reply_is_no_object (replies.Was stamp) is none = reached_held is.reached is.part is.field none
+  reply_is_no_object (replies.Now stamp) is none = absurd is
   reply_is_no_object (replies.Length n) is none = opened_held is.head is.meta is.opened none
   reply_is_no_object (replies.Phase p) is none = absurd (no_poll command names is.a_poll)
   reply_is_no_object (replies.Cycle j) is none = absurd is

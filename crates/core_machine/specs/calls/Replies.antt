@@ -49,6 +49,7 @@ StandsOn tells heap number command before kept told replies.No = AnswersLocally 
 StandsOn tells heap number command before kept told (replies.Made id) = IsMade tells heap number command before kept told id
 StandsOn tells heap number command before kept told (replies.Got value stamp) = IsGot tells command before kept value stamp
 StandsOn tells heap number command before kept told (replies.Was stamp) = IsSetTo tells number command before kept stamp
+StandsOn tells heap number command before kept told (replies.Now stamp) = ⊥
 StandsOn tells heap number command before kept told (replies.Length n) = HasLength tells command before kept n
 StandsOn tells heap number command before kept told (replies.Phase p) = HasPhase tells command before kept p
 StandsOn tells heap number command before kept told (replies.Cycle j) = ⊥

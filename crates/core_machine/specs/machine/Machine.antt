@@ -44,12 +44,13 @@ state_after_move heap state number move = record state {
   seats = slice_set state.seats number (seat_after move (found_by heap state move.step));
 }
 
--- the seat where this call begins; a collect, which isn't served, begins nothing
+-- the seat where this call begins; a collect and a cas, which aren't served, begin nothing
 abbrev pub call_start : Heap → Seat → Command → Seat
 call_start heap seat (commands.New d fields) = gather_next heap seat
 call_start heap seat (commands.Array d cells) = record seat { point = Making Granting }
 call_start heap seat (commands.Get d r i) = access_start seat (register_in seat.registers r)
 call_start heap seat (commands.Set r i v) = access_start seat (register_in seat.registers r)
+call_start heap seat (commands.Cas r i a v) = seat
 call_start heap seat (commands.Num d n) = record seat { point = Local }
 call_start heap seat (commands.Nil d) = record seat { point = Local }
 call_start heap seat (commands.Copy d r) = record seat { point = Local }

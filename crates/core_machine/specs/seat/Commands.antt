@@ -1,7 +1,7 @@
 -- What a command names.
 use Rattle.std.specs.Prelude.{ℕ}
 use Rattle.heap_model.specs.declared.command.Command.{Command}
-use Rattle.heap_model.specs.declared.command.Command.TheVariants.{New, Array, Get, Set, Num, Nil, Copy, Same, Len, Poll, Collect, Leave}
+use Rattle.heap_model.specs.declared.command.Command.TheVariants.{New, Array, Get, Set, Cas, Num, Nil, Copy, Same, Len, Poll, Collect, Leave}
 use Rattle.core_machine.specs.declared.seat.commands.Operands.{Operands}
 
 -- the command makes an object
@@ -20,12 +20,13 @@ abbrev pub IsArrayCall : Command → Type 0
 IsArrayCall (Array d cells) = Unit {0}
 IsArrayCall _ = ⊥
 
--- the machine serves the command: all but a collect, which is made of inner calls
+-- the machine serves the command: all but a collect, which is made of inner calls, and a cas, for which it has no step yet
 abbrev pub IsServed : Command → Type 0
 IsServed (New d fields) = Unit {0}
 IsServed (Array d cells) = Unit {0}
 IsServed (Get d r i) = Unit {0}
 IsServed (Set r i v) = Unit {0}
+IsServed (Cas r i a v) = ⊥
 IsServed (Num d n) = Unit {0}
 IsServed (Nil d) = Unit {0}
 IsServed (Copy d r) = Unit {0}
@@ -39,12 +40,13 @@ IsServed Leave = Unit {0}
 abbrev pub no_operands : Operands
 no_operands = record { target = 0; object = 0; source = 0; field = 0; fields = 0; cells = 0 }
 
--- what a command names; 0 for what it doesn't name
+-- what a served command names; 0 for what it doesn't name
 abbrev pub operands_of : Command → Operands
 operands_of (New d fields) = record no_operands { target = d; fields = fields }
 operands_of (Array d cells) = record no_operands { target = d; cells = cells }
 operands_of (Get d r i) = record no_operands { target = d; object = r; field = i }
 operands_of (Set r i v) = record no_operands { object = r; field = i; source = v }
+operands_of (Cas r i a v) = no_operands
 operands_of (Num d n) = record no_operands { target = d }
 operands_of (Nil d) = record no_operands { target = d }
 operands_of (Copy d r) = record no_operands { target = d; source = r }

@@ -2,7 +2,7 @@
 use Rattle.std.specs.Prelude.{◌≡◌, ℕ, ◌<◌, true, false, List, Some, IsSome}
 use Rattle.heap_words.specs.declared.spot.Spot.{Spot}
 use Rattle.heap_model.specs.declared.command.Command.{Command}
-use Rattle.heap_model.specs.declared.command.Command.TheVariants.{Get, Set, Len}
+use Rattle.heap_model.specs.declared.command.Command.TheVariants.{Get, Set, Cas, Len}
 use Rattle.heap_model.specs.Command.{IsCommand}
 use Rattle.core_machine.specs.declared.point.Access.{Access}
 use Rattle.core_machine.specs.declared.point.Access.TheVariants.{LoadingMeta, Walking, LoadingSpot, Indexing, Getting, Naming, LoadingOld, ShadingOld, ShadingNew, Swapping}
@@ -35,17 +35,19 @@ abbrev pub IsSet : Command → Type 0
 IsSet (Set r i v) = Unit {0}
 IsSet _ = ⊥
 
--- the command works on an object
+-- the command works on an object; a cas isn't served yet
 abbrev pub NamesObject : Command → Type 0
 NamesObject (Get d r i) = Unit {0}
 NamesObject (Set r i v) = Unit {0}
+NamesObject (Cas r i a v) = ⊥
 NamesObject (Len r) = Unit {0}
 NamesObject _ = ⊥
 
--- the command works on a field
+-- the command works on a field; a cas isn't served yet
 abbrev pub NamesField : Command → Type 0
 NamesField (Get d r i) = Unit {0}
 NamesField (Set r i v) = Unit {0}
+NamesField (Cas r i a v) = ⊥
 NamesField _ = ⊥
 
 -- the command is in range, a stamp is left for a set, and the register that the command names holds an object

@@ -11,7 +11,7 @@ use Rattle.core_machine.specs.seat.Handshake.{roots}
 use Rattle.core_machine.specs.seat.Registers.{register_in, register_head}
 use Rattle.core_machine.specs.seat.Seat.{Seat}
 
--- a command that looks at no word: one on an object does so where its register holds none
+-- a command that looks at no word: one on an object does so where its register holds none; a cas isn't served yet
 abbrev pub IsLocal : List Register → Command → Type 0
 IsLocal registers (commands.Num d n) = Unit {0}
 IsLocal registers (commands.Nil d) = Unit {0}
@@ -19,6 +19,7 @@ IsLocal registers (commands.Copy d r) = Unit {0}
 IsLocal registers (commands.Same a b) = Unit {0}
 IsLocal registers (commands.Get d r i) = register_head (register_in registers r) ≡ None
 IsLocal registers (commands.Set r i v) = register_head (register_in registers r) ≡ None
+IsLocal registers (commands.Cas r i a v) = ⊥
 IsLocal registers (commands.Len r) = register_head (register_in registers r) ≡ None
 IsLocal registers _ = ⊥
 

@@ -1,7 +1,7 @@
 -- The calls that look at no word: one load of the phase, at which their reply stands.
 use Rattle.std.specs.Prelude.{Bool, if◌then◌else◌, List, slice_set}
 use Rattle.heap_model.specs.declared.command.Command.{Command}
-use Rattle.heap_model.specs.declared.command.Command.TheVariants.{New, Array, Get, Set, Num, Nil, Copy, Same, Len, Poll, Collect, Leave}
+use Rattle.heap_model.specs.declared.command.Command.TheVariants.{New, Array, Get, Set, Cas, Num, Nil, Copy, Same, Len, Poll, Collect, Leave}
 use Rattle.heap_model.specs.declared.reply.Reply.{Reply}
 use Rattle.heap_model.specs.declared.reply.Reply.TheVariants.{Done, Yes, No, NoObject}
 use Rattle.core_machine.specs.declared.seat.register.Register.{Register}
@@ -19,6 +19,7 @@ local_reply_of registers (New d fields) = NoObject
 local_reply_of registers (Array d cells) = NoObject
 local_reply_of registers (Get d r i) = NoObject
 local_reply_of registers (Set r i v) = NoObject
+local_reply_of registers (Cas r i a v) = NoObject
 local_reply_of registers (Num d n) = Done
 local_reply_of registers (Nil d) = Done
 local_reply_of registers (Copy d r) = Done
@@ -34,6 +35,7 @@ local_registers registers (New d fields) = registers
 local_registers registers (Array d cells) = registers
 local_registers registers (Get d r i) = registers
 local_registers registers (Set r i v) = registers
+local_registers registers (Cas r i a v) = registers
 local_registers registers (Num d n) = slice_set registers d (held.Number n)
 local_registers registers (Nil d) = slice_set registers d held.Nil
 local_registers registers (Copy d r) = slice_set registers d (register_in registers r)

@@ -112,12 +112,13 @@ need seat = need_of seat.command
 abbrev pub spine_need : Seat → ℕ
 spine_need seat = spine_need_of seat.command
 
--- where so many objects were made and sets done, a name is left for the object that the command makes, or a stamp for its set
+-- where so many objects were made and sets done, a name is left for the object that the command makes, or a stamp for the cell that it sets
 abbrev pub HasNumberLeft : ℕ → ℕ → Command → Type 0
 HasNumberLeft made sets (commands.New d fields) = made + 1 < name_limit
 HasNumberLeft made sets (commands.Array d cells) = made + 1 < name_limit
 HasNumberLeft made sets (commands.Get d r i) = Unit {0}
 HasNumberLeft made sets (commands.Set r i v) = sets + 1 < stamp_limit
+HasNumberLeft made sets (commands.Cas r i a v) = sets + 1 < stamp_limit
 HasNumberLeft made sets (commands.Num d n) = Unit {0}
 HasNumberLeft made sets (commands.Nil d) = Unit {0}
 HasNumberLeft made sets (commands.Copy d r) = Unit {0}

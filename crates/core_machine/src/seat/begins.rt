@@ -21,7 +21,7 @@ fn is_served(command: &Command) -> bool
     ensures { IsTrue result ↔ IsServed command.now }
 {
     match command {
-        Command::Collect => false,
+        Command::Cas { .. } | Command::Collect => false,
         Command::New { .. }
         | Command::Array { .. }
         | Command::Get { .. }
@@ -48,13 +48,13 @@ impl<L: Entries> SeatParty<L> {
         !self.left && is_served(command) && command.is_in_range() && self.has_number(command)
     }
 
-    /// Whether a name is left for the object that the command makes, or a stamp for its set.
+    /// Whether a name is left for the object that the command makes, or a stamp for the cell that it sets.
     fn has_number(&self, command: &Command) -> bool
         ensures { IsTrue result ↔ HasNumberLeft self.now.seat.made self.now.seat.sets command.now }
     {
         match command {
             Command::New { .. } | Command::Array { .. } => self.made < u32::MAX,
-            Command::Set { .. } => self.sets < MOST_SETS,
+            Command::Set { .. } | Command::Cas { .. } => self.sets < MOST_SETS,
             _ => true,
         }
     }
@@ -82,7 +82,7 @@ impl<L: Entries> SeatParty<L> {
             | Command::Nil { .. }
             | Command::Copy { .. }
             | Command::Same { .. } => self.point = Point::Local,
-            Command::Collect => unreachable!(),
+            Command::Cas { .. } | Command::Collect => unreachable!(),
         }
     }
 

@@ -66,7 +66,11 @@ impl Operands {
                 ..none
             },
             Command::Len { r } => Operands { object: r, ..none },
-            Command::Same { .. } | Command::Poll | Command::Collect | Command::Leave => none,
+            Command::Cas { .. }
+            | Command::Same { .. }
+            | Command::Poll
+            | Command::Collect
+            | Command::Leave => none,
         }
     }
 }
