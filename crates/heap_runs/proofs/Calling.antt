@@ -14,7 +14,6 @@ use Rattle.heap_model.specs.calls.SeatCalls.{ComesBefore, HasNumber, last_gives,
 use Rattle.heap_model.specs.calls.SeatReplies.{next_id}
 use Rattle.core_machine.specs.machine.Calls.{PlaysCall, AnswersNew, TellsLeave, free_count, within_reach}
 use Rattle.core_machine.specs.machine.Machine.{seat_at, Begins, Can}
-use Rattle.core_machine.specs.seat.Commands.{IsServed}
 use Rattle.core_machine.specs.seat.Making.{next_object_id}
 use Rattle.core_machine.specs.seat.Seat.{Seat}
 use Rattle.core_rule.specs.runs.Laws.{StandsFor, FreeIsUnused, WordsAreUsed}
@@ -24,11 +23,6 @@ use Rattle.heap_runs.specs.Collecting.{IsStillThere}
 use Rattle.heap_runs.specs.MachineHeap.{run_state_of, IsBetweenCalls}
 use Rattle.heap_runs.specs.PlayHeap.{MayCall, AnswersOnce, IsEnough, seat_state_of}
 use Rattle.heap_runs.proofs.ArrayCalls.{answers_array_once}
-
--- every command but a collect is served
-served_once : (command : Command) → command ≢ commands.Collect → IsServed command
-served_once commands.Collect once = absurd (once refl)
-served_once _ once = tt
 
 -- a seat that may be called is there
 pub callable_is_still_there : (whole : Recorded) (number : ℕ) (command : Command) → StandsFor whole.machine.heap whole.machine.state [] whole.history
@@ -49,7 +43,7 @@ callable_may_begin whole number command once s between may =
       record {
         idle = idle;
         present = still.there;
-        served = served_once command once;
+        served = may.served once;
         in_range = may.in_range;
         numbered = has_number_left heap state whole.history s number may.within idle command (number_again command may.numbered);
       },
@@ -60,6 +54,7 @@ callable_may_begin whole number command once s between may =
     number_again (commands.New d fields) has = has
     number_again (commands.Array d cells) has = has
     number_again (commands.Set r i v) has = has
+    number_again (commands.Cas r i a v) has = has
     number_again _ has = tt
 
 -- the machine's call is one of a heap that is played on

@@ -16,6 +16,7 @@ pub mod Lines
 pub mod LooksOn
 pub mod NextLine
 pub mod Noted
+pub mod PlayTexts
 pub mod RoleOn
 pub mod RunsEnd
 pub mod SeatTells

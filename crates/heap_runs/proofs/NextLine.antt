@@ -6,6 +6,7 @@ use Rattle.heap_model.specs.declared.command.Command.{Command}
 use Rattle.heap_model.specs.declared.command.Command.TheVariants as commands
 use Rattle.heap_model.specs.Command.{IsCommand}
 use Rattle.heap_model.specs.calls.SeatCalls.{HasNumber}
+use Rattle.core_machine.specs.seat.Commands.{IsServed}
 use Rattle.script_text.specs.declared.script.Form.TheVariants.{Play}
 use Rattle.script_text.specs.declared.script.Line.{Line}
 use Rattle.script_text.specs.declared.script.Line.TheVariants as lines
@@ -27,6 +28,7 @@ in_range (commands.New d fields) scripted = scripted
 in_range (commands.Array d cells) scripted = scripted
 in_range (commands.Get d r i) scripted = scripted
 in_range (commands.Set r i v) scripted = scripted
+in_range (commands.Cas r i a v) scripted = absurd scripted
 in_range (commands.Num d n) scripted = scripted
 in_range (commands.Nil d) scripted = scripted
 in_range (commands.Copy d r) scripted = scripted
@@ -35,11 +37,18 @@ in_range (commands.Len r) scripted = scripted
 in_range commands.Poll scripted = scripted
 in_range commands.Collect scripted = scripted
 
+-- and is served, unless it is a collect
+served : (command : Command) → IsScripted command → command ≢ commands.Collect → IsServed command
+served (commands.Cas r i a v) scripted once = absurd scripted
+served commands.Collect scripted once = absurd (once refl)
+served _ scripted once = tt
+
 -- a seat that did little has numbers left
 numbers_left : (state : PlayState) (number calls : ℕ) (command : Command) → calls ≤ 65536 → DoesFew state number calls → HasNumber (seat_state_of state number) command
 numbers_left state number calls (commands.New d fields) short few = omega (arith, short, few.few_objects)
 numbers_left state number calls (commands.Array d cells) short few = omega (arith, short, few.few_objects)
 numbers_left state number calls (commands.Set r i v) short few = omega (arith, short, few.few_sets)
+numbers_left state number calls (commands.Cas r i a v) short few = omega (arith, short, few.few_sets)
 numbers_left state number calls _ short few = tt
 
 module _ (script : Script) (items : List Line) (i : ℕ) (d line : Line) (all : items ≡ script.lines) (form : IsOfForm Play script) (below : i < length items) (is : get_or items i d ≡ line) where
@@ -74,10 +83,11 @@ is_next_call script items i d number command state all form below is plays =
         present = plays.present number line.0;
         in_range = in_range command line.1;
         numbered = numbers_left state number i command short (plays.few number line.0);
+        served = served command line.1;
       };
       stays = no_leave command line.1;
     }
 
 -- the next seat may leave
 pub next_seat_may_leave : (state : PlayState) (number : ℕ) → number < state.heap.seats → IsThere state number → MayCall state number commands.Leave
-next_seat_may_leave state number below there = record { within = below; present = there; in_range = tt; numbered = tt }
+next_seat_may_leave state number below there = record { within = below; present = there; in_range = tt; numbered = tt; served = λ once. tt }

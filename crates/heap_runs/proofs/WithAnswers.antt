@@ -39,12 +39,13 @@ module _ (state : PlayState) (number : ℕ) where
 
   -- a call that may be made may be made without the answers
   pub may_call_when_bare : (command : Command) → MayCall state number command → MayCall (bare state) number command
-  may_call_when_bare command may = record { within = may.within; present = ap (λ (s : GraphSeat). s.left) own_same ∙ may.present; in_range = may.in_range; numbered = numbered command may.numbered }
+  may_call_when_bare command may = record { within = may.within; present = ap (λ (s : GraphSeat). s.left) own_same ∙ may.present; in_range = may.in_range; numbered = numbered command may.numbered; served = may.served }
     where
       numbered : (command : Command) → HasNumber (seat_state_of state number) command → HasNumber (seat_state_of (bare state) number) command
       numbered (commands.New d fields) has = omega (arith, has, ap (λ (s : GraphSeat). length s.objects) own_same)
       numbered (commands.Array d cells) has = omega (arith, has, ap (λ (s : GraphSeat). length s.objects) own_same)
       numbered (commands.Set r i v) has = omega (arith, has, ap (λ (s : GraphSeat). s.sets) own_same)
+      numbered (commands.Cas r i a v) has = omega (arith, has, ap (λ (s : GraphSeat). s.sets) own_same)
       numbered _ has = tt
 
   module _ (command : Command) where

@@ -23,7 +23,7 @@ use Rattle.heap_model.specs.calls.CollectorCalls.{CollectorState, Turns}
 use Rattle.heap_model.specs.calls.SeatCalls.{HasNumber, Adds}
 use Rattle.heap_model.specs.calls.SeatReplies.{next_id}
 use Rattle.heap_model.specs.calls.SeatState.{SeatState, own_graph_seat}
-use Rattle.core_machine.specs.seat.Commands.{IsRecordCall, IsArrayCall}
+use Rattle.core_machine.specs.seat.Commands.{IsRecordCall, IsArrayCall, IsServed}
 use Rattle.heap_runs.specs.Play.{ComesInCollect}
 
 -- the heap, the entries of all its parties in their order, for how many more of the collector's there is room, the number of turns as far
@@ -56,12 +56,13 @@ collector_state_of state = record {
   last_turn = state.last_turn;
 }
 
--- the seat may be given the command: it is there, it hasn't left, and the command has its numbers
+-- the seat may be given the command: it is there, it hasn't left, and the command has its numbers and is served, unless it is a collect
 pub record MayCall (state : PlayState) (number : ℕ) (command : Command) : Type 0 where
   pub within : number < state.heap.seats
   pub present : (own_graph_seat (seat_state_of state number)).left ≡ false
   pub in_range : IsCommand command
   pub numbered : HasNumber (seat_state_of state number) command
+  pub served : command ≢ Collect → IsServed command
 
 -- what is in no use and what the seat has of its own is enough for the command
 abbrev pub IsEnough : PlayState → ℕ → Command → Type 0

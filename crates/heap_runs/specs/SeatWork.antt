@@ -6,18 +6,19 @@ use Rattle.heap_model.specs.Limits.{name_limit, stamp_limit}
 use Rattle.heap_model.specs.calls.SeatCalls.{HasNumber}
 use Rattle.heap_model.specs.calls.SeatState.{own_graph_seat}
 use Rattle.heap_model.specs.declared.command.Command.{Command}
-use Rattle.heap_model.specs.declared.command.Command.TheVariants.{Leave}
+use Rattle.heap_model.specs.declared.command.Command.TheVariants.{Collect, Leave}
 use Rattle.heap_model.specs.declared.entry.Entry.{Entry}
 use Rattle.heap_model.specs.declared.fault.Memory.{Memory}
 use Rattle.heap_model.specs.declared.heap.Heap.{Heap}
 use Rattle.heap_model.specs.runs.Told.{commands_told, waits_told}
+use Rattle.core_machine.specs.seat.Commands.{IsServed}
 use Rattle.heap_table.specs.SeatHeld.{SeatHeld}
 use Rattle.mutator_seat.specs.Resting.{seat_state}
 use Rattle.heap_runs.specs.CollectCall.{IsPresent}
 
--- the command is one of a script: its numbers are in their ranges, and it is no leave
+-- the command is one of a script: its numbers are in their ranges, it is no leave, and the machine serves it, unless it is a collect
 abbrev pub IsOfScript : Command → Type 0
-IsOfScript command = IsCommand command × (command ≢ Leave)
+IsOfScript command = IsCommand command × (command ≢ Leave) × (command ≢ Collect → IsServed command)
 
 -- how many objects the seat has made, and how many sets it has done
 abbrev pub objects_of : SeatHeld → ℕ

@@ -1,6 +1,8 @@
 ghost use Rattle.std.specs.Prelude.{◌≡◌, true, [], length, is_some, option_map, IfOk, OnOk};
+ghost use Rattle.std.specs.List.{AllByRecursion};
 ghost use Rattle.script_text.specs.declared.script.Form.TheVariants.{Play};
 ghost use Rattle.script_text.specs.Writing.{IsOfForm};
+ghost use Rattle.reply_text.specs.Written.{HasText};
 ghost use Rattle.heap_runs.specs.Play.{IsPlay, StandForLines};
 ghost use Rattle.heap_runs.specs.PlayHeap.{MayCall};
 ghost use Rattle.heap_runs.specs.Playing.{NotesSeatLine, NotesLines, IsPlaying, HaveLeft, AllHaveLeft, NotesLastCycle};
@@ -103,7 +105,8 @@ pub fn play<H: PlayHeap + Drop>(
     requires whole { (H.state whole).heap ≡ heap }
     requires heap { heap ≡ script.now.heap }
     requires form { IsOfForm Play script.now }
-    ensures { IfOk result (IsPlay (is_some pace) script.now) }
+    ensures played { IfOk result (IsPlay (is_some pace) script.now) }
+    ensures spelled { IfOk result (λ history. AllByRecursion HasText history.entries) }
 {
     law_sweep_exact();
     let mut whole = answer_lines(whole, script, pace)?;

@@ -82,6 +82,7 @@ refusing number seat n m (commands.Array d cells) is = λ e. rw is refl
 refusing number seat n m (commands.New d fields) is = λ e. let loads = sym (ap (λ (c : Command). is_quiet (refusal_step c (spine_need seat))) is) ∙ e in cc
 refusing number seat n m (commands.Get d r i) is = λ e. let loads = sym (ap (λ (c : Command). is_quiet (refusal_step c (spine_need seat))) is) ∙ e in cc
 refusing number seat n m (commands.Set r i v) is = λ e. let loads = sym (ap (λ (c : Command). is_quiet (refusal_step c (spine_need seat))) is) ∙ e in cc
+refusing number seat n m (commands.Cas r i a v) is = λ e. let loads = sym (ap (λ (c : Command). is_quiet (refusal_step c (spine_need seat))) is) ∙ e in cc
 refusing number seat n m (commands.Num d k) is = λ e. let loads = sym (ap (λ (c : Command). is_quiet (refusal_step c (spine_need seat))) is) ∙ e in cc
 refusing number seat n m (commands.Nil d) is = λ e. let loads = sym (ap (λ (c : Command). is_quiet (refusal_step c (spine_need seat))) is) ∙ e in cc
 refusing number seat n m (commands.Copy d r) is = λ e. let loads = sym (ap (λ (c : Command). is_quiet (refusal_step c (spine_need seat))) is) ∙ e in cc

@@ -14,7 +14,6 @@ use Rattle.heap_model.specs.Limits.{stamp_limit}
 use Rattle.heap_model.specs.account.PhaseCounts.{has_left, is_leave_of}
 use Rattle.core_machine.specs.machine.Machine.{seat_at, Begins, BeginsInner, Can}
 use Rattle.heap_model.specs.declared.calls.collect.Inner.{Inner}
-use Rattle.core_machine.specs.seat.Commands.{IsServed}
 use Rattle.core_machine.specs.seat.Looks.{MayMake}
 use Rattle.core_machine.specs.seat.Seat.{Seat, HasNumberLeft}
 use Rattle.core_rule.specs.runs.Laws.{EveryRunKeeps}
@@ -32,16 +31,12 @@ use Rattle.locked_heap.proofs.GivenRuns.{book_stands_for_run, seat_count_is_heap
 use Rattle.heap_record.proofs.TellsOne.{tells_one_of_call}
 use Rattle.locked_heap.proofs.TellsNone.{tells_none_of_others_call}
 
--- every command but a collect is served
-served_once : (command : Command) → command ≢ commands.Collect → IsServed command
-served_once commands.Collect once = absurd (once refl)
-served_once _ once = tt
-
 -- where few commands were answered, a name and a stamp are left
 number_few : (made sets position : ℕ) (command : Command) → made ≤ position → sets ≤ position → position + 1 < stamp_limit → HasNumberLeft made sets command
 number_few made sets position (commands.New d fields) few_made few_sets few = omega (arith, few_made, few)
 number_few made sets position (commands.Array d cells) few_made few_sets few = omega (arith, few_made, few)
 number_few made sets position (commands.Set r i v) few_made few_sets few = omega (arith, few_sets, few)
+number_few made sets position (commands.Cas r i a v) few_made few_sets few = omega (arith, few_sets, few)
 number_few made sets position _ few_made few_sets few = tt
 
 module _ (runs : EveryRunKeeps) (given : Given) (recorded : Recorded) (seats : List Progress) (number : ℕ) (run : IsRunFrom given recorded) (all : AllHaveCome given recorded.history recorded.machine.state seats)
@@ -65,7 +60,7 @@ module _ (runs : EveryRunKeeps) (given : Given) (recorded : Recorded) (seats : L
         record {
           idle = run.led.all_idle number here;
           present = come.leaves ∙ next.there;
-          served = served_once command once;
+          served = of_script.2 once;
           in_range = of_script.0;
           numbered = number_few seat.made seat.sets position command (come.few_objects next.there) (come.few_sets next.there) (omega (arith, within, given_script_is_right.few));
         },

@@ -2,7 +2,7 @@
 use Rattle.std.specs.Prelude.{◌≡◌, ◌≢◌, ℕ, ◌^◌, ◌<◌, List, [], length, map, slice_index_or, All, Vec}
 use Rattle.std.specs.declared.alloc.Global.{Global}
 use Rattle.heap_model.specs.declared.command.Command.{Command}
-use Rattle.heap_model.specs.declared.command.Command.TheVariants.{Leave}
+use Rattle.heap_model.specs.declared.command.Command.TheVariants.{Collect, Leave}
 use Rattle.heap_model.specs.declared.heap.Heap.{Heap}
 use Rattle.heap_model.specs.Command.{IsCommand}
 use Rattle.heap_model.specs.Heap.{IsHeap}
@@ -10,6 +10,7 @@ use Rattle.heap_model.specs.Limits.{stamp_limit}
 use Rattle.core_machine.specs.collector.Collector.{opening_collector}
 use Rattle.core_machine.specs.machine.Machine.{State}
 use Rattle.core_machine.specs.machine.Opening.{IsOpening}
+use Rattle.core_machine.specs.seat.Commands.{IsServed}
 
 -- the heap, the state in which it opens, the commands of each seat, and how often a collect finds another seat behind before it answers that it waits
 pub record Given : Type 0 where
@@ -27,9 +28,9 @@ nothing_given = record {
   patience = 0;
 }
 
--- the command is one of a script: its numbers are in their ranges, and it is no leave
+-- the command is one of a script: its numbers are in their ranges, it is no leave, and the machine serves it, unless it is a collect
 abbrev pub IsOfScript : Command → Type 0
-IsOfScript command = IsCommand command × (command ≢ Leave)
+IsOfScript command = IsCommand command × (command ≢ Leave) × (command ≢ Collect → IsServed command)
 
 -- so is each command, and there are fewer than the stamps of a seat
 pub record IsSeatScript (commands : List Command) : Type 0 where

@@ -47,6 +47,7 @@ module _ (tells : Step → ℕ → Type 0) (heap : Heap) (number : ℕ) (before 
       }
   call_counts_so command (replies.Got value stamp) is = same_counts command _ is.kept_is refl refl
   call_counts_so command (replies.Was stamp) is = record { waits = ap (λ (k : Kept). k.looks.waits) is.kept_is; sets = inr (is.a_set, ap (λ (k : Kept). k.sets) is.kept_is) }
+  call_counts_so command (replies.Now stamp) is = absurd is
   call_counts_so command (replies.Length n) is = same_counts command _ is.keeps refl refl
   call_counts_so command (replies.Phase p) is = same_counts command _ is.kept_is refl refl
   call_counts_so command (replies.Cycle j) is = absurd is

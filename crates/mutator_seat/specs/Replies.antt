@@ -53,12 +53,13 @@ abbrev pub IsDone : Reply → Type 0
 IsDone Done = Unit {0}
 IsDone _ = ⊥
 
--- the reply is of a kind that the command can give
+-- the reply is of a kind that the command can give; no call answers a cas yet
 abbrev pub IsReplyTo : Command → Reply → Type 0
 IsReplyTo (commands.New d fields) reply = AnswersRecord reply
 IsReplyTo (commands.Array d cells) reply = AnswersArray reply
 IsReplyTo (commands.Get d r i) reply = AnswersGet reply
 IsReplyTo (commands.Set r i v) reply = AnswersSet reply
+IsReplyTo (commands.Cas r i a v) reply = ⊥
 IsReplyTo (commands.Num d n) reply = IsDone reply
 IsReplyTo (commands.Nil d) reply = IsDone reply
 IsReplyTo (commands.Copy d r) reply = IsDone reply

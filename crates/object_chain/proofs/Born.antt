@@ -30,6 +30,7 @@ made_of : (tells : Step → ℕ → Type 0) (heap : Heap) (number d fields : ℕ
 made_of tells heap number d fields before kept first (replies.Made id) enough stands = (id, refl, stands)
 made_of tells heap number d fields before kept first (replies.Got value stamp) enough stands = absurd stands.a_get
 made_of tells heap number d fields before kept first (replies.Was stamp) enough stands = absurd stands.a_set
+made_of tells heap number d fields before kept first (replies.Now stamp) enough stands = absurd stands
 made_of tells heap number d fields before kept first replies.Done enough stands = absurd stands.local
 made_of tells heap number d fields before kept first replies.Yes enough stands = absurd stands.local
 made_of tells heap number d fields before kept first replies.No enough stands = absurd stands.local

@@ -27,17 +27,18 @@ items script = script.items
 
 -- a command that a script may have is one of a seat's script
 of_script : (command : Command) → IsScripted command → IsOfScript command
-of_script (commands.New d fields) is = (is, λ same. cc)
-of_script (commands.Array d cells) is = (is, λ same. cc)
-of_script (commands.Get d r i) is = (is, λ same. cc)
-of_script (commands.Set r i v) is = (is, λ same. cc)
-of_script (commands.Num d n) is = (is, λ same. cc)
-of_script (commands.Nil d) is = (is, λ same. cc)
-of_script (commands.Copy d r) is = (is, λ same. cc)
-of_script (commands.Same a b) is = (is, λ same. cc)
-of_script (commands.Len r) is = (is, λ same. cc)
-of_script commands.Poll is = (is, λ same. cc)
-of_script commands.Collect is = (is, λ same. cc)
+of_script (commands.New d fields) is = (is, λ same. cc, λ once. tt)
+of_script (commands.Array d cells) is = (is, λ same. cc, λ once. tt)
+of_script (commands.Get d r i) is = (is, λ same. cc, λ once. tt)
+of_script (commands.Set r i v) is = (is, λ same. cc, λ once. tt)
+of_script (commands.Cas r i a v) is = absurd is
+of_script (commands.Num d n) is = (is, λ same. cc, λ once. tt)
+of_script (commands.Nil d) is = (is, λ same. cc, λ once. tt)
+of_script (commands.Copy d r) is = (is, λ same. cc, λ once. tt)
+of_script (commands.Same a b) is = (is, λ same. cc, λ once. tt)
+of_script (commands.Len r) is = (is, λ same. cc, λ once. tt)
+of_script commands.Poll is = (is, λ same. cc, λ once. tt)
+of_script commands.Collect is = (is, λ same. cc, λ once. absurd (once refl))
 of_script commands.Leave is = absurd is
 
 -- the command of a line is one more at most

@@ -127,6 +127,7 @@ begin_is_usual heap seat (commands.New d fields) idle = gather_usual heap (recor
 begin_is_usual heap seat (commands.Get d r i) idle = start_usual (record seat { command = commands.Get d r i }) (register_in seat.registers r)
 begin_is_usual heap seat (commands.Set r i v) idle = start_usual (record seat { command = commands.Set r i v }) (register_in seat.registers r)
 begin_is_usual heap seat (commands.Len r) idle = start_usual (record seat { command = commands.Len r }) (register_in seat.registers r)
+begin_is_usual heap seat (commands.Cas r i a v) idle = subst IsUsual (sym idle) tt
 begin_is_usual heap seat commands.Collect idle = subst IsUsual (sym idle) tt
 begin_is_usual heap seat _ idle = tt
 

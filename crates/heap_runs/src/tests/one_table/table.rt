@@ -44,7 +44,7 @@ fn may_call(seat: &Seat, command: &Command) -> bool
 {
     let room = 2 * command.need() as usize + 4;
     let counts = seat.names_left() > 0 && seat.stamps_left() > 0;
-    !matches!(command, Command::Collect)
+    !matches!(command, Command::Collect | Command::Cas { .. })
         && command.is_in_range()
         && !seat.left()
         && seat.spare() >= room

@@ -75,7 +75,7 @@ fn on_board(command: Command) -> Command {
 fn may_be_in_script(command: &Command) -> bool
     ensures { IsTrue result → IsOfScript command.now }
 {
-    command.is_in_range() && !matches!(*command, Command::Leave)
+    command.is_in_range() && !matches!(*command, Command::Leave | Command::Cas { .. })
 }
 
 /// The script of the seat, of its lines among these.
