@@ -6,5 +6,7 @@ pub mod PutRegister
 pub mod SeenStamps
 pub mod SameValues
 pub mod ObjectReplies
+pub mod FoundCells
+pub mod CompareReplies
 pub mod LocalReplies
 pub mod ToldGraph

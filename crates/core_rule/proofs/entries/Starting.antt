@@ -100,8 +100,8 @@ module _ (g : Graph) (nodes : ℕ → Node) (made : List Id) (owner : ℕ → Ow
       → ((r : ℕ) → (value : Value) × HoldsValue made owner fragments (register_in seat.registers r) value) → Starts seat (call_start heap seat command)
   other_call_starts heap seat (commands.Get d r i) other served is holds = opened_starts seat (register_in seat.registers r) (holds r).0 (holds r).1 (ap (λ c. register_in seat.registers (object_of c)) (sym is))
   other_call_starts heap seat (commands.Set r i v) other served is holds = opened_starts seat (register_in seat.registers r) (holds r).0 (holds r).1 (ap (λ c. register_in seat.registers (object_of c)) (sym is))
+  other_call_starts heap seat (commands.Cas r i a v) other served is holds = opened_starts seat (register_in seat.registers r) (holds r).0 (holds r).1 (ap (λ c. register_in seat.registers (object_of c)) (sym is))
   other_call_starts heap seat (commands.Len r) other served is holds = opened_starts seat (register_in seat.registers r) (holds r).0 (holds r).1 (ap (λ c. register_in seat.registers (object_of c)) (sym is))
   other_call_starts heap seat (commands.New d fields) other served is holds = absurd (other tt)
-  other_call_starts heap seat (commands.Cas r i a v) other served is holds = absurd served
   other_call_starts heap seat commands.Collect other served is holds = absurd served
   other_call_starts heap seat _ other served is holds = record { own = at_point seat _ _ _; awaits = refl; way = tt; fresh = tt; bare = tt }

@@ -9,7 +9,7 @@ use Rattle.heap_model.specs.declared.reply.Reply.TheVariants as replies
 use Rattle.heap_model.specs.Command.{IsCommand}
 use Rattle.heap_model.specs.account.Phases.{ShowsPhases}
 use Rattle.heap_model.specs.account.Refusals.{ShowsSpace, ShowsSpine}
-use Rattle.heap_model.specs.graph.Replies.{Says, Gets, Sets, Compares, length_reply}
+use Rattle.heap_model.specs.graph.Replies.{Says, Gets, Sets, Swaps, Compares, length_reply}
 use Rattle.core_machine.specs.declared.seat.register.Register.TheVariants as registers
 use Rattle.core_machine.specs.seat.Local.{answer_of, local_reply_of, local_registers, local_seen}
 use Rattle.core_rule.proofs.graph.PutRegister.{holds_value_after_put}
@@ -100,6 +100,13 @@ module _ (heap : Heap) (history : List Entry) (g : Graph) (number : ℕ) (made :
     computed_reply_is_local (commands.Set r i v) ranges local = record {
       plain = record { none = refl; space = tt; spine = tt; phases = tt; most = refl };
       says = subst (λ (o : Option Node). Sets (graph_seat g number).sets (cell_or_refusal o i) replies.NoObject) (sym (no_target r local)) refl;
+      only = only_registers_of_itself g number;
+      registers = holds;
+      seen_right = stands;
+    }
+    computed_reply_is_local (commands.Cas r i a v) ranges local = record {
+      plain = record { none = refl; space = tt; spine = tt; phases = tt; most = refl };
+      says = subst (λ (o : Option Node). Swaps (graph_seat g number).sets (register_cell g number a) (cell_or_refusal o i) replies.NoObject) (sym (no_target r local)) refl;
       only = only_registers_of_itself g number;
       registers = holds;
       seen_right = stands;

@@ -77,7 +77,7 @@ module _ (heap : Heap) (state : State) (book : Book) (number : ℕ) (rule : Rule
   from_same begun shown keeps = subst (λ words. Keeps heap state (record state { words = words; seats = slice_set state.seats number new }) book begun shown) (sym (put_of_read_changes_nothing heap state.words a)) keeps
 
   -- the seat has its standing in the cycle where it shades nothing
-  pub seat_in_cycle_after_load : IsUnwatchedAt (has_barrier_of (seat_at state number)) point
+  pub seat_in_cycle_after_load : IsUnwatchedAt new point
       → SeatInCycle heap state.words (phase book.history) (last_answer number book.history) (has_left number book.history) book.owner book.colour number new
   seat_in_cycle_after_load unwatched =
       let cycle = (rule.seats_stand number here).cycle in

@@ -37,6 +37,8 @@ meta_cases P (commands.Get d r i) found is len more past =
     cond_both (ltb i (length_of found)) None (Some replies.NoField) P (λ e. more tt (ltb-true i (length_of found) e)) (λ e. past tt (ltb-false i (length_of found) e))
 meta_cases P (commands.Set r i v) found is len more past =
     cond_both (ltb i (length_of found)) None (Some replies.NoField) P (λ e. more tt (ltb-true i (length_of found) e)) (λ e. past tt (ltb-false i (length_of found) e))
+meta_cases P (commands.Cas r i a v) found is len more past =
+    cond_both (ltb i (length_of found)) None (Some replies.NoField) P (λ e. more tt (ltb-true i (length_of found) e)) (λ e. past tt (ltb-false i (length_of found) e))
 meta_cases P _ found is len more past = absurd is
 
 module _ (heap : Heap) (state : State) (book : Book) (number : ℕ) (rule : Rule heap state book) (here : number < heap.seats)

@@ -31,7 +31,7 @@ module _ (heap : Heap) (state : State) (book : Book) (number : ℕ) (rule : Rule
       → Awaits (told_graph heap book) book.made book.owner book.fragments number (on_way reached links part address to) (points.Access to) []
       → AccessStands (node_at (told_graph heap book) book.made) book.made book.owner book.fragments (on_way reached links part address to) to
       → AddressAt heap state.words book (on_way reached links part address to) (points.Access to)
-      → IsUnwatched (has_barrier_of (seat_at state number)) to
+      → IsUnwatched (on_way reached links part address to) to
       → (IsInMarking state.collector → OfRoots (IsReachedNow heap state book) (seat_at state number) → AtCall (IsReachedNow heap state book) (on_way reached links part address to) to)
       → IsMachine heap (loaded_state heap state number a (on_way reached links part address to))
       → Keeps heap state (loaded_state heap state number a (on_way reached links part address to)) book book.begun []
