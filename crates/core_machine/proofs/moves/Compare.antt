@@ -2,7 +2,7 @@
 use Rattle.std.specs.Prelude.{IsSome, unwrap_or}
 use Rattle.std.proofs.Common.{◌≡◌, ℕ, ◌+◌, ◌*◌, ◌^◌, ◌<◌, ◌≤◌, ◌==◌, Bool, true, false, inl, inr, [], length, refl, arith, List, subst, sym, Option, Some, None}
 use Rattle.core_machine.proofs.Terms.{Entry, Heap, ShadingSide, Replacing, Side, source_of, Fits, FitsRegister, SeatIsAtCas, after_side, after_replace, offer_point_of, at_access, has_barrier_of}
-use Rattle.core_machine.proofs.Terms.{side_of, side_register_of, register_head, Seat, with_entries, Nears, access_steps, entries_awaited}
+use Rattle.core_machine.proofs.Terms.{found_by, side_of, side_register_of, register_head, Seat, with_entries, Nears, access_steps, entries_awaited}
 use Rattle.heap_model.specs.graph.Growth.{set_stamp}
 use Rattle.core_machine.specs.declared.point.Point.TheVariants as points
 use Rattle.core_machine.specs.declared.point.Side.TheVariants as sides
@@ -33,10 +33,10 @@ module _ (heap : Heap) (seat : Seat) where
       (λ none. fits_at_access heap seat seat.reached seat.links seat.part seat.loaded Replacing rests rests.fits.way.reached_within rests.fits.way.loaded_within is)
   fits_side_done sides.New rests is on = fits_at_access heap seat seat.reached seat.links seat.part seat.loaded Replacing rests rests.fits.way.reached_within rests.fits.way.loaded_within is
 
-  nears_side_done : (side : Side) (rows : ℕ) → Nears heap (with_entries (after_side seat side) []) 1 (access_steps rows seat.links (ShadingSide side)) 0
-  nears_side_done sides.Expected rows =
+  nears_side_done : (side : Side) → Nears heap (with_entries (after_side seat side) []) 1 (access_steps 0 seat.links (ShadingSide side)) 0
+  nears_side_done sides.Expected =
       offer_cases (λ s. Nears heap (with_entries s []) 1 3 0) seat (λ some. record { fewer = omega arith; paid = omega arith }) (λ none. record { fewer = omega arith; paid = omega arith })
-  nears_side_done sides.New rows = record { fewer = omega arith; paid = omega arith }
+  nears_side_done sides.New = record { fewer = omega arith; paid = omega arith }
 
   -- the call ended, whether the words were the same or not
   fits_replaced : (same : Bool) → Rests heap seat → Fits heap (after_replace seat same)
@@ -73,7 +73,7 @@ point_stands_at_shading_side side heap number seat here =
       step = shade_step_stands heap (unwrap_or (register_head (side_register_of seat side)) 0)
           (register_head_within_heap heap (side_register_of seat side) here.way.2 (each_register_fits heap seat.registers (side_of side seat.command) here.fits.own.registers_fit));
       fits = λ found small led. fits_side_done heap seat side (access_point_rests heap number seat (ShadingSide side) here) here.way.0 here.way.1;
-      near = λ found. nears_side_done heap seat side _;
+      near = λ found. nears_side_done heap seat side;
       adds = λ now. adds_where_none_awaited heap now number seat move (side_keeps_list seat side) (rw here.point_is refl) (side_awaits heap seat (after_words heap now number seat move) number side []) refl;
     }
 

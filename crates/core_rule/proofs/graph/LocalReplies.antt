@@ -53,7 +53,7 @@ module _ (heap : Heap) (history : List Entry) (g : Graph) (number : ℕ) (made :
     copied_seen : (d r : ℕ) → r ≤ 15 → SeenStands (with_register g number d (register_cell g number r)) number (set seen d (seen_in seen r))
     copied_seen d r within =
         let is : seen_in seen r ≡ seen_stamp g number r = seen_is_graphs g number seen stands r (omega (arith, sixteen, within)) in
-        let long : length seen ≡ 16 = ap length stands.stamps ∙ length-map (λ (c : Cell). c.stamp) (graph_seat g number).registers ∙ sixteen in
+        let long : length seen ≡ 16 = ap length stands.stamps ∙ length-map (graph_seat g number).registers (λ (c : Cell). c.stamp) ∙ sixteen in
         subst (λ s. SeenStands (with_register g number d (register_cell g number r)) number (set seen d s)) (sym is)
         (seen_after_put g number seen stands d (register_cell g number r) present (subst (λ s. s < 2 ^ 32) is (seen_is_small g number seen stands r (omega (arith, long, within)))))
 

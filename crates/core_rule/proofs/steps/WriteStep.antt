@@ -44,11 +44,11 @@ module _ (heap : Heap) (state : State) (book : Book) (number : ℕ) (rule : Rule
   abbrev seat : Seat
   seat = seat_at state number
 
-  abbrev g : Graph
-  g = graph_of heap book.history
-
   abbrev found : ℕ
   found = at heap state.words (Word seat.reached seat.part)
+
+  abbrev g : Graph
+  g = graph_of heap book.history
 
   pub field_registers_hold : (r : ℕ) → HoldsValue book.made book.owner book.fragments (register_in seat.registers r) (register_value g number r)
   field_registers_hold r = (rule.seats_stand number here).names.registers r (λ awaited. unnamed (target_of seat.command) r (subst (λ x. IsAwaited x (target_of seat.command) r) point awaited))

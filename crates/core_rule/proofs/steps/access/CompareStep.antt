@@ -45,14 +45,14 @@ module _ (heap : Heap) (state : State) (book : Book) (number : ℕ) (rule : Rule
   abbrev seat : Seat
   seat = seat_at state number
 
-  abbrev g : Graph
-  g = graph_of heap book.history
+  abbrev old : ℕ
+  old = old_word_of seat
 
   abbrev found : ℕ
   found = at heap state.words (Word seat.reached seat.part)
 
-  abbrev old : ℕ
-  old = old_word_of seat
+  abbrev g : Graph
+  g = graph_of heap book.history
 
   -- the cell that the register was read with
   abbrev expected : Cell
@@ -85,7 +85,7 @@ module _ (heap : Heap) (state : State) (book : Book) (number : ℕ) (rule : Rule
 
   stamp_small : expected.stamp < 2 ^ 32
   stamp_small =
-      let long : length seat.seen ≡ 16 = ap length stamps.stamps ∙ length-map (λ (c : Cell). c.stamp) (graph_seat g number).registers ∙ sixteen in
+      let long : length seat.seen ≡ 16 = ap length stamps.stamps ∙ length-map (graph_seat g number).registers (λ (c : Cell). c.stamp) ∙ sixteen in
       subst (λ s. s < 2 ^ 32) seen_is (seen_is_small g number seat.seen stamps (expected_of seat.command) (omega (arith, long, expected_within_registers seat.command fits.1 fits.0.in_range)))
 
   names : NamesKept book.made book.owner book.fragments expected.value

@@ -1,6 +1,6 @@
 -- Shading a value of a compare and swap keeps the rule.
 use Rattle.std.specs.Prelude.{unwrap_or}
-use Rattle.std.proofs.Common.{◌≡◌, ℕ, true, [], ◌++◌, Option, Some, None, IsSome, refl, subst, slice_set}
+use Rattle.std.proofs.Common.{◌≡◌, ℕ, ◌<◌, true, [], ◌++◌, Option, Some, None, IsSome, refl, subst, slice_set}
 use Rattle.core_rule.proofs.Terms.{graph_of, phase, register_value, Graph, Heap, State, Book, Rule, ShadingSide, Replacing, Side, side_of, side_register_of, seat_at, has_barrier_of, register_head, Seat, ReadsSpine}
 use Rattle.core_rule.proofs.Terms.{IsMachine, Colour, IsMarked, IsSideMarked, IsBetween, ShadedStands, WhileAccess, node_at, Finds}
 use Rattle.core_machine.specs.declared.point.Access.{Access}

@@ -118,7 +118,7 @@ module _ (heap : Heap) (state : State) (book : Book) (number : ℕ) (rule : Rule
       let next : Seat = record seat { used = found; point = points.Making Withdrawing } in
       goes next
       record {
-        same = record { registers = refl; stored = refl; mine = refl; made = refl; sets = refl; answered = refl; left = refl; asked = refl };
+        same = record { registers = refl; seen = refl; stored = refl; mine = refl; made = refl; sets = refl; answered = refl; left = refl; asked = refl };
         making = Withdrawing;
         point_is = refl;
       }
