@@ -2,7 +2,6 @@
 use Rattle.std.proofs.Common.{◌≡◌, ℕ, ◌<◌, ◌==◌, Bool, true, false, if◌then◌else◌, List, [], ◌∷◌, ◌++◌, length, refl, sym, ap, subst, ◌∙◌}
 use Rattle.std.specs.List.{AllByRecursion}
 use Rattle.std.proofs.lemmas.Bool.{eq-eqb}
-use Rattle.heap_model.specs.account.Noting.{IsSeatBelow}
 use Rattle.heap_model.specs.declared.command.Command.{Command}
 use Rattle.heap_model.specs.declared.command.Command.TheVariants as commands
 use Rattle.heap_model.specs.declared.entry.Entry.{Entry}
@@ -10,7 +9,7 @@ use Rattle.heap_model.specs.declared.entry.Entry.TheVariants as entries
 use Rattle.heap_model.specs.declared.heap.Heap.{Heap}
 use Rattle.heap_model.specs.graph.Graph.{Graph, opening}
 use Rattle.heap_model.specs.graph.Growth.{after_entry}
-use Rattle.heap_model.specs.graph.Legal.{Accepts, AcceptsAll, IsObjectLegal}
+use Rattle.heap_model.specs.graph.Legal.{AcceptsAll, IsObjectLegal}
 use Rattle.heap_model.specs.runs.Told.{commands_told}
 use Rattle.script_text.specs.declared.script.Form.{Form}
 use Rattle.script_text.specs.declared.script.Form.TheVariants.{Run}
@@ -27,19 +26,6 @@ use Rattle.log_merge.proofs.merge_lemmas.Finding.{present_seat_is_there}
 use Rattle.log_merge.proofs.merge_lemmas.Rests.{seat_count_after_entry, seat_count_at_opening}
 use Rattle.schism_program.specs.Running.{IsRunOf, seat_commands}
 
--- the seats of accepted entries are the heap's
-accepted_below : (g : Graph) (entry : Entry) → Accepts g entry → IsSeatBelow (length g.seats) entry
-accepted_below g (entries.Said number command reply) accepts = present_seat_is_there g number accepts.0
-accepted_below g (entries.Takes number count) accepts = present_seat_is_there g number accepts
-accepted_below g (entries.GivesBack number count) accepts = present_seat_is_there g number accepts
-accepted_below g (entries.Answers number phase) accepts = present_seat_is_there g number accepts
-accepted_below g _ accepts = tt
-
-all_below : (g : Graph) (told : List Entry) → AcceptsAll g told → AllByRecursion (IsSeatBelow (length g.seats)) told
-all_below g [] accepts = tt
-all_below g (entry ∷ told) accepts =
-    (accepted_below g entry accepts.0, subst (λ n. AllByRecursion (IsSeatBelow n) told) (seat_count_after_entry g entry) (all_below (after_entry g entry) told accepts.1))
-
 -- what holds of all holds of those behind
 all_behind : {A : Type 0} (P : A → Type 0) (xs ys : List A) → AllByRecursion P (xs ++ ys) → AllByRecursion P ys
 all_behind P [] ys all = all
@@ -50,13 +36,15 @@ first_is_spelled : (number : ℕ) (command : Command) (more : List Command) → 
 first_is_spelled number command more all =
     (subst (λ (own : Bool). AllByRecursion IsSpelled ((if own then command ∷ [] else []) ++ more)) (eq-eqb number number refl) all).0
 
-told_have_text : (seats : ℕ) (told : List Entry) → AllByRecursion (IsSeatBelow seats) told → ((number : ℕ) → number < seats → AllByRecursion IsSpelled (commands_told number told)) → AllByRecursion HasText told
-told_have_text seats [] below spelled = tt
-told_have_text seats (entries.Said number command reply ∷ told) below spelled = (
-  first_is_spelled number command (commands_told number told) (spelled number below.0),
-  told_have_text seats told below.1 (λ other within. all_behind IsSpelled (if number == other then command ∷ [] else []) (commands_told other told) (spelled other within)),
-)
-told_have_text seats (_ ∷ told) below spelled = (tt, told_have_text seats told below.1 spelled)
+told_have_text : (g : Graph) (told : List Entry) → AcceptsAll g told → ((number : ℕ) → number < length g.seats → AllByRecursion IsSpelled (commands_told number told)) → AllByRecursion HasText told
+told_have_text g [] accepts spelled = tt
+told_have_text g (entries.Said number command reply ∷ told) accepts spelled =
+    let entry = entries.Said number command reply in (
+      first_is_spelled number command (commands_told number told) (spelled number (present_seat_is_there g number accepts.0.0)),
+      told_have_text (after_entry g entry) told accepts.1 (λ other within.
+      all_behind IsSpelled (if number == other then command ∷ [] else []) (commands_told other told) (spelled other (subst (λ n. other < n) (seat_count_after_entry g entry) within))),
+    )
+told_have_text g (entry ∷ told) accepts spelled = (tt, told_have_text g told accepts.1 spelled)
 
 -- the commands of a script are, and a leave is
 spelled_more : (own : Bool) (command : Command) (rest : List Command) → IsSpelled command → AllByRecursion IsSpelled (rest ++ commands.Leave ∷ [])
@@ -73,6 +61,6 @@ commands_are_spelled seats number (lines.Turns command ∷ more) all = absurd al
 pub run_has_text : (locked : Bool) (script : Script) (history : History) → IsOfForm Run script → IsRunOf locked script history → AllByRecursion HasText history.entries
 run_has_text locked script history form ran =
     let legal : IsObjectLegal history.heap history.entries = subst (λ (f : Form). AreLegal f history.heap history.entries) ran.form ran.legal.entries in
-    told_have_text script.heap.seats history.entries
-    (subst (λ n. AllByRecursion (IsSeatBelow n) history.entries) (seat_count_at_opening history.heap ∙ ap (λ (h : Heap). h.seats) ran.heap) (all_below (opening history.heap) history.entries legal))
-    (λ number within. subst (AllByRecursion IsSpelled) (sym (ran.commands number within)) (commands_are_spelled script.heap.seats number script.lines form.lines))
+    told_have_text (opening history.heap) history.entries legal (λ number within.
+    let below : number < script.heap.seats = subst (λ n. number < n) (seat_count_at_opening history.heap ∙ ap (λ (h : Heap). h.seats) ran.heap) within in
+    subst (AllByRecursion IsSpelled) (sym (ran.commands number below)) (commands_are_spelled script.heap.seats number script.lines form.lines))

@@ -134,10 +134,10 @@ get_has_seat g (entries.Said seat (commands.Cas r i a v) (replies.Now stamp)) va
 get_has_seat g _ value j t gets = absurd gets
 
 accepted_seat_is_there : (g : Graph) (x : Entry) (seat : ℕ) → Accepts g x → seat_of x ≡ Some seat → seat < length g.seats
-accepted_seat_is_there g (entries.Said number command reply) seat accepts its = subst (λ n. n < length g.seats) cc (present_seat_is_there g number accepts.0)
-accepted_seat_is_there g (entries.Takes number count) seat accepts its = subst (λ n. n < length g.seats) cc (present_seat_is_there g number accepts)
-accepted_seat_is_there g (entries.GivesBack number count) seat accepts its = subst (λ n. n < length g.seats) cc (present_seat_is_there g number accepts)
-accepted_seat_is_there g (entries.Answers number phase) seat accepts its = subst (λ n. n < length g.seats) cc (present_seat_is_there g number accepts)
+accepted_seat_is_there g (entries.Said number command reply) seat accepts its = let same : number ≡ seat = cc in subst (λ n. n < length g.seats) same (present_seat_is_there g number accepts.0)
+accepted_seat_is_there g (entries.Takes number count) seat accepts its = let same : number ≡ seat = cc in subst (λ n. n < length g.seats) same (present_seat_is_there g number accepts)
+accepted_seat_is_there g (entries.GivesBack number count) seat accepts its = let same : number ≡ seat = cc in subst (λ n. n < length g.seats) same (present_seat_is_there g number accepts)
+accepted_seat_is_there g (entries.Answers number phase) seat accepts its = let same : number ≡ seat = cc in subst (λ n. n < length g.seats) same (present_seat_is_there g number accepts)
 accepted_seat_is_there g _ seat accepts its = absurd cc
 
 -- a get that is left of a log stands in the rest

@@ -69,18 +69,12 @@ impl Merger {
     fn replaced_by(&self, entry: &Entry) -> Option<PendingGet>
         ensures { Accepts self.now.graph entry.now → result ≡ replaced_by self.now.graph entry.now }
     {
-        let Entry::Said {
-            seat,
-            command,
-            reply,
-        } = *entry
-        else {
-            return None;
-        };
-        match (command, reply) {
-            (Command::Set { r, i, .. } | Command::Cas { r, i, .. }, Reply::Was(stamp)) => {
-                kind_of(held(&self.graph, seat, r), i, stamp)
-            }
+        match *entry {
+            Entry::Said {
+                seat,
+                command: Command::Set { r, i, .. } | Command::Cas { r, i, .. },
+                reply: Reply::Was(stamp),
+            } => kind_of(held(&self.graph, seat, r), i, stamp),
             _ => None,
         }
     }
@@ -89,19 +83,17 @@ impl Merger {
     fn got_by(&self, entry: &Entry) -> Option<PendingGet>
         ensures { Accepts self.now.graph entry.now → result ≡ got_by self.now.graph entry.now }
     {
-        let Entry::Said {
-            seat,
-            command,
-            reply,
-        } = *entry
-        else {
-            return None;
-        };
-        match (command, reply) {
-            (Command::Get { r, i, .. }, Reply::Got { stamp, .. })
-            | (Command::Cas { r, i, .. }, Reply::Now(stamp)) => {
-                kind_of(held(&self.graph, seat, r), i, stamp)
+        match *entry {
+            Entry::Said {
+                seat,
+                command: Command::Get { r, i, .. },
+                reply: Reply::Got { stamp, .. },
             }
+            | Entry::Said {
+                seat,
+                command: Command::Cas { r, i, .. },
+                reply: Reply::Now(stamp),
+            } => kind_of(held(&self.graph, seat, r), i, stamp),
             _ => None,
         }
     }
