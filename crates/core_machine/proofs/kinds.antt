@@ -68,7 +68,7 @@ access_kind access.Indexing = record { stands = point_stands_at_indexing; leads 
 access_kind access.Getting = record { stands = point_stands_at_getting; leads = point_leads_at_getting; alone = gets_alone }
 access_kind access.Naming = record { stands = point_stands_at_naming; leads = point_leads_at_naming; alone = names_alone }
 access_kind access.LoadingOld = record { stands = point_stands_at_loading_old; leads = point_leads_at_loading_old; alone = loads_old_alone }
-access_kind (access.ShadingSide side) = record { stands = point_stands_at_shading_side side; leads = point_leads_at_shading_side side; alone = shades_side_alone side }
+access_kind (access.ShadingSide side) = record { stands = point_stands_at_shading_side side; leads = λ tells. point_leads_at_shading_side tells side; alone = shades_side_alone side }
 access_kind access.ShadingOld = record { stands = point_stands_at_shading_old; leads = point_leads_at_shading_old; alone = shades_old_alone }
 access_kind access.ShadingNew = record { stands = point_stands_at_shading_new; leads = point_leads_at_shading_new; alone = shades_new_alone }
 access_kind access.Swapping = record { stands = point_stands_at_swapping; leads = point_leads_at_swapping; alone = swaps_alone }

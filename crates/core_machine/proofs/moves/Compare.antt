@@ -1,6 +1,6 @@
 -- A compare and swap, with the barrier on or off.
 use Rattle.std.specs.Prelude.{IsSome, unwrap_or}
-use Rattle.std.proofs.Common.{◌≡◌, ℕ, ◌+◌, ◌*◌, ◌^◌, ◌<◌, ◌≤◌, ◌==◌, Bool, true, false, inl, inr, [], length, refl, arith, List, subst, sym, Option, Some, None}
+use Rattle.std.proofs.Common.{◌≡◌, ℕ, ◌+◌, ◌*◌, ◌^◌, ◌<◌, ◌≤◌, ◌==◌, Bool, true, false, [], length, refl, arith, List, subst, sym, Option, Some, None}
 use Rattle.core_machine.proofs.Terms.{Entry, Heap, ShadingSide, Replacing, Side, source_of, Fits, FitsRegister, SeatIsAtCas, after_side, after_replace, offer_point_of, at_access, has_barrier_of}
 use Rattle.core_machine.proofs.Terms.{found_by, side_of, side_register_of, register_head, Seat, with_entries, Nears, access_steps, entries_awaited}
 use Rattle.heap_model.specs.graph.Growth.{set_stamp}
@@ -10,7 +10,6 @@ use Rattle.core_machine.specs.seat.AccessMoves.{new_register_of, new_word_of, ol
 use Rattle.core_machine.proofs.call_lemmas.Awaits.{adds_where_none_awaited, after_words}
 use Rattle.core_machine.proofs.moves.Standing.{PointStands, access_point_rests}
 use Rattle.core_machine.proofs.seat_lemmas.FittingAccess.{Rests, fits_at_access, fits_after_sets}
-use Rattle.core_machine.proofs.table_lemmas.Bits.{true_or_false}
 use Rattle.core_machine.proofs.table_lemmas.Leading.{register_leads_within_heap}
 use Rattle.core_machine.proofs.table_lemmas.StepStands.{shade_step_stands, compared_step_stands}
 use Rattle.core_machine.proofs.table_lemmas.Wide.{cas_has_stamp_left, register_word_fits_bits}

@@ -1,5 +1,5 @@
 -- A compare and swap shades its values, and compares its field.
-use Rattle.std.proofs.Common.{◌≡◌, ◌≢◌, ℕ, ◌==◌, Bool, true, false, List, [], ◌∷◌, ◌++◌, inl, inr, refl, sym, ap, subst}
+use Rattle.std.proofs.Common.{◌≡◌, ℕ, ◌==◌, Bool, true, false, List, [], ◌∷◌, ◌++◌, inl, inr, refl, sym, ap, subst}
 use Rattle.std.proofs.lemmas.Bool.Decides.{eqb_tells}
 use Rattle.core_machine.proofs.Terms.{stamp_of, Entry, Said, Heap, Reply, Kept, kept_of, IsUntold, StageAt, StandsOn, IsAnswered, ShadingSide, Replacing, Side, Step, after_side, after_replace, Seat, with_entries}
 use Rattle.core_machine.specs.calls.Reaching.{ReachesField}

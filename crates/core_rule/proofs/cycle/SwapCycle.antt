@@ -1,6 +1,6 @@
 -- What a call puts into a field is marked while black fragments are made; so the colours and the other seats' sets stand.
 use Rattle.std.specs.Prelude.{IfSome}
-use Rattle.std.proofs.Common.{◌≡◌, ◌≢◌, ℕ, ◌%◌, ◌*◌, ◌^◌, ◌<◌, List, Some, inl, inr, refl, sym, ap, ◌∙◌, subst, arith}
+use Rattle.std.proofs.Common.{◌≡◌, ◌≢◌, ℕ, ◌%◌, ◌*◌, ◌^◌, ◌<◌, List, Some, inl, inr, refl, sym, ap, ◌∙◌, arith}
 use Rattle.core_rule.proofs.Terms.{cycle_phases, marking, black_births, sweep, Heap, Value, Register, WordPointsTo, graph_of, phase, Word, at, put, head_of, pointer_in, is_meta, spine_words_in, State, seat_at, Seat, Book, object_head}
 use Rattle.core_rule.proofs.Terms.{IsMarked, IsBetween, HeapInCycle, NamesKept, value_word, HoldsValue, Rule}
 use Rattle.core_machine.specs.declared.table.address.Address.TheVariants.{Answer, Phase}

@@ -1,5 +1,5 @@
 -- The replies to a compare and swap: when they are the graph's, and what they change.
-use Rattle.std.proofs.Common.{◌≡◌, ◌≢◌, ℕ, ◌+◌, ◌≤◌, ◌<◌, ◌^◌, false, List, Option, Result, Ok, refl, sym, ap, ◌∙◌, subst, arith}
+use Rattle.std.proofs.Common.{◌≡◌, ◌≢◌, ℕ, ◌+◌, ◌≤◌, ◌<◌, ◌^◌, false, List, Option, Result, refl, sym, ap, ◌∙◌, subst, arith}
 use Rattle.heap_model.specs.declared.command.Command.TheVariants as commands
 use Rattle.heap_model.specs.declared.graph.cell.Cell.{Cell}
 use Rattle.heap_model.specs.declared.reply.Reply.TheVariants as replies
@@ -7,7 +7,7 @@ use Rattle.heap_model.specs.Command.{IsCommand}
 use Rattle.heap_model.specs.graph.Objects.{register_cell}
 use Rattle.heap_model.specs.graph.Replies.{Says, Swaps}
 use Rattle.core_machine.specs.seat.FitsAccess.{IsCas}
-use Rattle.core_rule.proofs.Terms.{Command, Entry, Said, Heap, Id, Value, Reply, Owner, KeepsSpace, Accepts, IsPresent, after_reply, graph_seat, target_node, cell_or_refusal, cell_at, or_no_field, Graph, Node}
+use Rattle.core_rule.proofs.Terms.{Command, Entry, Said, Heap, Id, Value, Reply, Owner, KeepsSpace, Accepts, IsPresent, after_reply, graph_seat, target_node, cell_or_refusal, or_no_field, Graph, Node}
 use Rattle.core_rule.proofs.Terms.{spent_of, taken_of, stamp_of, expected_of, HasNumberLeft}
 use Rattle.core_rule.proofs.entries.Legality.{keeps_space_of_plain_said}
 use Rattle.core_rule.proofs.graph.FoundCells.{IsWrite, FindsCell}

@@ -1,16 +1,16 @@
 -- Under which stamps a seat's registers are seen, as its registers and its point change.
-use Rattle.std.proofs.Common.{◌≡◌, ℕ, ◌^◌, ◌<◌, false, List, [], ◌∷◌, ◌++◌, length, map, get_or, set, refl, sym, ap, ◌∙◌, subst, arith}
+use Rattle.std.proofs.Common.{◌≡◌, ℕ, ◌^◌, ◌<◌, false, List, [], ◌∷◌, ◌++◌, length, map, get_or, set, refl, sym, ap, ◌∙◌, arith}
 use Rattle.std.proofs.lemmas.List.{map-set, get_or-map}
 use Rattle.std.proofs.lemmas.List.Elements.{All-set}
 use Rattle.heap_model.specs.declared.graph.cell.Cell.{Cell}
 use Rattle.heap_model.specs.declared.id.Value.TheVariants as values
 use Rattle.heap_model.specs.graph.Graph.{GraphSeat, unseen}
-use Rattle.heap_model.specs.graph.Objects.{register_cell, seen_stamp}
+use Rattle.heap_model.specs.graph.Objects.{seen_stamp}
 use Rattle.heap_model.proofs.graph_changes.GraphSeats.{party_with_seat_is_new}
 use Rattle.core_machine.specs.declared.point.Access.TheVariants.{Naming}
 use Rattle.core_machine.specs.declared.point.Point.TheVariants as points
 use Rattle.core_machine.specs.seat.Registers.{seen_in}
-use Rattle.core_rule.proofs.Terms.{Graph, Id, Made, Node, Owner, add, Point, Seat, Awaits, IsAnswered, SeenStands, stamps_at, graph_stamps, with_register, with_graph_seat, graph_seat, unset}
+use Rattle.core_rule.proofs.Terms.{Graph, Id, Made, Node, Owner, add, Point, Seat, Awaits, IsAnswered, SeenStands, stamps_at, with_register, graph_seat, unset}
 
 -- no name is awaited there
 abbrev pub IsUnnamed : Point → Type 0

@@ -1,7 +1,7 @@
 -- What a call takes out of a field and what it puts in is marked, so marking comes to all that it came to.
-use Rattle.std.proofs.Common.{◌≡◌, ℕ, ◌%◌, ◌^◌, ◌<◌, ◌⊎◌, None, inl, inr, sym, subst, arith, List}
+use Rattle.std.proofs.Common.{◌≡◌, ℕ, ◌%◌, ◌^◌, ◌<◌, ◌⊎◌, inl, inr, sym, subst, arith, List}
 use Rattle.std.proofs.lemmas.Bool.{cases_eq}
-use Rattle.core_rule.proofs.Terms.{cycle_phases, Heap, Value, phase, State, seat_at, Seat, Book, object_head, IsMarked, IsBetween, WordPointsTo}
+use Rattle.core_rule.proofs.Terms.{cycle_phases, Heap, Value, phase, State, seat_at, Seat, Book, object_head, IsMarked, WordPointsTo}
 use Rattle.core_rule.proofs.Terms.{NamesKept, value_word, HoldsValue, Rule}
 use Rattle.heap_model.specs.PhasePlan.{marking as marking_phase}
 use Rattle.core_machine.specs.seat.AccessMoves.{new_register_of}

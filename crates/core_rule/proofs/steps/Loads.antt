@@ -4,7 +4,7 @@ use Rattle.std.proofs.lemmas.Bool.{eq-eqb}
 use Rattle.std.proofs.lemmas.List.{append-nil}
 use Rattle.heap_words.specs.declared.spot.Spot.{Spot}
 use Rattle.core_rule.proofs.Terms.{Command, Entry, Said, Heap, Reply, KeepsSpace, graph_of, effect_of, no_effect, after_reply, Accepts, phase, last_answer, has_left, is_leave_of}
-use Rattle.core_rule.proofs.Terms.{Graph, Point, Register, target_of, IsAtRest, IsSilent, at, put, State, seat_at, has_barrier_of, Seat, no_spot, with_entries, call_over}
+use Rattle.core_rule.proofs.Terms.{Graph, Point, Register, target_of, IsAtRest, IsSilent, at, put, State, seat_at, Seat, no_spot, with_entries, call_over}
 use Rattle.core_rule.proofs.Terms.{SeenStands, stamps_at, after_call, IsMachine, Book, OwnList, SeatInCycle, Began, IsAnswered, node_at, Registers, Rule, OwnStands, AddressStands, WayStands}
 use Rattle.core_machine.specs.declared.table.address.Address.{Address}
 use Rattle.core_machine.specs.declared.point.Point.TheVariants as points

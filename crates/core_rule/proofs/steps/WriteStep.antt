@@ -3,9 +3,9 @@ use Rattle.std.proofs.Common.{◌≡◌, ℕ, ◌+◌, ◌^◌, ◌<◌, false, 
 use Rattle.std.proofs.lemmas.Option.{slice_get-get_or}
 use Rattle.heap_model.specs.declared.graph.cell.Cell.{Cell}
 use Rattle.core_rule.proofs.Terms.{Entry, Heap, Id, Value, count_set, set_stamp, write, graph_of, after_reply, graph_seat, register_value}
-use Rattle.core_rule.proofs.Terms.{node, phase, last_answer, has_left, Graph, Node, unset, Word, object_of, source_of, Point, State, IsMachine, Book, Rule, IsAnswered, IsAwaited}
+use Rattle.core_rule.proofs.Terms.{node, phase, last_answer, has_left, Graph, Node, unset, Word, object_of, source_of, State, IsMachine, Book, Rule, IsAnswered, IsAwaited}
 use Rattle.core_rule.proofs.Terms.{field_of, target_of, IsAtRest, IsSilent, at, put, InTable, stamp_of, seat_at, register_in, Seat, with_entries, fragment_at, SeenStands}
-use Rattle.core_rule.proofs.Terms.{id_at, object_head, AreMade, NamesKept, Objects, Owner, node_at, value_word, HoldsValue, Finds, row_in, field_part}
+use Rattle.core_rule.proofs.Terms.{id_at, object_head, AreMade, NamesKept, Objects, node_at, value_word, HoldsValue, Finds, row_in, field_part}
 use Rattle.heap_model.specs.declared.entry.Entry.TheVariants as entries
 use Rattle.heap_model.specs.declared.id.Value.TheVariants as values
 use Rattle.heap_model.specs.declared.reply.Reply.TheVariants as replies

@@ -1,15 +1,15 @@
 -- The compare and swap keeps the rule: where the words are the same it puts its value into the field as a set does, and else it changes nothing.
 use Rattle.std.specs.Prelude.{if◌then◌else◌, slice_set}
-use Rattle.std.proofs.Common.{◌≡◌, ◌≢◌, ℕ, ◌+◌, ◌%◌, ◌==◌, ◌^◌, ◌<◌, Bool, true, false, List, [], ◌∷◌, length, map, Option, Some, inl, inr, refl, sym, ap, ◌∙◌, subst, arith}
+use Rattle.std.proofs.Common.{◌≡◌, ◌≢◌, ℕ, ◌==◌, ◌^◌, ◌<◌, Bool, true, false, [], ◌∷◌, length, Some, inl, inr, refl, sym, ap, ◌∙◌, subst, arith}
 use Rattle.std.proofs.lemmas.Bool.{eq-eqb}
 use Rattle.std.proofs.lemmas.Bool.Decides.{eqb_tells}
 use Rattle.std.proofs.lemmas.List.{length-map}
 use Rattle.heap_model.specs.declared.graph.cell.Cell.{Cell}
-use Rattle.heap_model.specs.graph.Objects.{register_cell, seen_stamp}
+use Rattle.heap_model.specs.graph.Objects.{register_cell}
 use Rattle.heap_model.proofs.graph_changes.GraphRegisters.{has_sixteen_registers}
 use Rattle.heap_model.proofs.graph_changes.PutRegister.{only_registers_of_itself}
-use Rattle.core_rule.proofs.Terms.{Entry, Said, Heap, Value, graph_of, graph_seat, phase, cycle_phases, marking, State, Book, Rule, IsMachine, Graph, Word, Replacing, IsAwaited, IsAnswered}
-use Rattle.core_rule.proofs.Terms.{expected_of, target_of, register_value, register_in, register_head, seen_in, side_register_of, IsMarked, IsBetween, ShadedStands, WhileAccess, WordPointsTo, at, put, stamp_of}
+use Rattle.core_rule.proofs.Terms.{Entry, Said, Heap, graph_of, graph_seat, phase, State, Book, Rule, IsMachine, Graph, Word, Replacing, IsAnswered}
+use Rattle.core_rule.proofs.Terms.{expected_of, register_value, register_in, register_head, seen_in, side_register_of, IsMarked, IsBetween, ShadedStands, WhileAccess, at, put, stamp_of}
 use Rattle.core_rule.proofs.Terms.{pointer_in, seat_at, Seat, no_spot, with_entries, object_head, HoldsValue, SeenStands, NamesKept, node_at, value_word, Finds}
 use Rattle.heap_model.specs.declared.reply.Reply.TheVariants as replies
 use Rattle.core_machine.specs.declared.point.Point.TheVariants as points
@@ -20,7 +20,7 @@ use Rattle.core_machine.specs.seat.FitsAccess.{SeatIsAtCas}
 use Rattle.core_machine.specs.seat.Looks.{forgotten}
 use Rattle.core_rule.proofs.steps.Assemble.{Keeps, StepKeeps, seat_fits}
 use Rattle.core_rule.proofs.steps.WriteStep.{finds_cell, field_registers_hold, own_stamps_stand, keeps_rule_by_write}
-use Rattle.core_rule.proofs.steps.Loads.{went, seat_in_cycle_after_load, loaded_state, keeps_rule_by_telling_load, keeps_rule_by_forgetting_load}
+use Rattle.core_rule.proofs.steps.Loads.{went, seat_in_cycle_after_load, keeps_rule_by_telling_load, keeps_rule_by_forgetting_load}
 use Rattle.core_rule.proofs.entries.AtRest.{in_flight_has_not_left, spent_within_taken, taken_is_few_unspent}
 use Rattle.core_rule.proofs.entries.OwnEntries.{own_entries_grow}
 use Rattle.core_rule.proofs.entries.PhaseEntries.{reply_is_no_leave}

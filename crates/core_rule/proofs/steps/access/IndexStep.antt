@@ -1,6 +1,6 @@
 -- Loading the spine word that names a cell's fragment keeps the rule.
 use Rattle.std.proofs.Common.{ℕ, ◌/◌, [], ◌++◌, refl, sym, subst, ◌+◌}
-use Rattle.core_rule.proofs.Terms.{graph_of, Graph, Indexing, has_barrier_of, field_point_of, after_index, at_payload, field_of, Seat, seat_at, payload_in, at, spine_place}
+use Rattle.core_rule.proofs.Terms.{graph_of, Graph, Indexing, field_point_of, after_index, at_payload, field_of, Seat, seat_at, payload_in, at, spine_place}
 use Rattle.core_rule.proofs.Terms.{ReadsSpine, Awaits, node_at, Finds, Locates, AccessStands}
 use Rattle.core_machine.specs.declared.point.Access.{Access}
 use Rattle.core_machine.specs.declared.point.Point.TheVariants as points

@@ -21,7 +21,7 @@ use Rattle.core_rule.proofs.looks.Ways.{StaysFound}
 use Rattle.core_rule.proofs.roots.CallRoots.{IsReachedNow, roots_hold_at_call}
 use Rattle.core_rule.proofs.colours.ShadeColours.{with_mark, mark_marks_fragment, mark_keeps_marked}
 use Rattle.core_rule.proofs.steps.ShadeStep.{shading, words_shaded}
-use Rattle.core_rule.proofs.steps.StepKinds.{StepKind, spares, comes_from_usual, step_kind_of_way, on_words_of_plain_step}
+use Rattle.core_rule.proofs.steps.StepKinds.{StepKind, spares, step_kind_of_way, on_words_of_plain_step}
 use Rattle.core_rule.proofs.colours.OneBit.{lower_bit_stays}
 
 -- where the value that it puts into the field goes next
@@ -125,12 +125,12 @@ shade_side_keeps Expected = shade_expected_keeps
 shade_side_keeps New = shade_new_side_keeps
 
 side_stays_found : (seat : Seat) (side : Side) → StaysFound seat (after_side seat side)
-side_stays_found seat Expected = offer_point_cases (λ p. StaysFound seat (record seat { point = points.Access p })) (register_head (side_register_of seat New)) (λ none. record { looks = refl; elsewhere = tt }) (λ some. record { looks = refl; elsewhere = tt })
-side_stays_found seat New = record { looks = refl; elsewhere = tt }
+side_stays_found s Expected = offer_point_cases (λ p. StaysFound s (record s { point = points.Access p })) (register_head (side_register_of s New)) (λ none. record { looks = refl; elsewhere = tt }) (λ some. record { looks = refl; elsewhere = tt })
+side_stays_found s New = record { looks = refl; elsewhere = tt }
 
 side_comes_from : (seat : Seat) (side : Side) → ComesFrom (points.Access (ShadingSide side)) (after_side seat side).point
-side_comes_from seat Expected = offer_point_cases (λ p. ComesFrom (points.Access (ShadingSide Expected)) (points.Access p)) (register_head (side_register_of seat New)) (λ none. tt) (λ some. tt)
-side_comes_from seat New = tt
+side_comes_from s Expected = offer_point_cases (λ p. ComesFrom (points.Access (ShadingSide Expected)) (points.Access p)) (register_head (side_register_of s New)) (λ none. tt) (λ some. tt)
+side_comes_from s New = tt
 
 -- all that is asked of it
 pub step_kind_of_shading_side : (side : Side) → StepKind (points.Access (ShadingSide side))

@@ -1,12 +1,11 @@
 -- The swap of a set keeps the rule.
-use Rattle.std.proofs.Common.{◌≡◌, ℕ, ◌+◌, ◌%◌, ◌^◌, ◌<◌, false, List, Option, None, Result, Ok, inl, inr, refl, sym, ap, ◌∙◌, subst, arith}
+use Rattle.std.proofs.Common.{◌≡◌, ℕ, ◌+◌, ◌^◌, ◌<◌, false, List, Option, None, Result, Ok, inl, inr, refl, sym, ap, ◌∙◌, subst, arith}
 use Rattle.heap_model.specs.declared.graph.cell.Cell.{Cell}
-use Rattle.core_rule.proofs.Terms.{Command, Entry, Heap, Value, Reply, Id, Owner, most_kept, set_cell, graph_of, after_reply, graph_seat, cycle_phases, marking, WordPointsTo, State, Book, Rule}
-use Rattle.core_rule.proofs.Terms.{target_node, cell_or_refusal, cell_at, or_no_field, phase, Graph, Node, Word, Swapping, object_of, source_of, IsMarked, IsBetween, DeletionBarrier, FieldStands, ShadedStands, WhileAccess}
-use Rattle.core_rule.proofs.Terms.{field_of, at, stamp_of, seat_at, has_barrier_of, Seat, HasNumberLeft, node_at, Finds, OldKept}
+use Rattle.core_rule.proofs.Terms.{Command, Heap, Value, Reply, Id, Owner, graph_of, graph_seat, State, Book, Rule}
+use Rattle.core_rule.proofs.Terms.{target_node, cell_or_refusal, cell_at, or_no_field, phase, Graph, Node, Word, Swapping, IsMarked, IsBetween, DeletionBarrier, FieldStands, ShadedStands, WhileAccess}
+use Rattle.core_rule.proofs.Terms.{at, stamp_of, seat_at, has_barrier_of, Seat, HasNumberLeft, node_at, Finds, OldKept}
 use Rattle.heap_model.specs.declared.command.Command.TheVariants as commands
 use Rattle.heap_model.specs.declared.reply.Reply.TheVariants as replies
-use Rattle.heap_model.specs.account.Phases.{ShowsPhases}
 use Rattle.heap_model.specs.graph.Replies.{Says}
 use Rattle.heap_model.specs.graph.Replies as says
 use Rattle.core_machine.specs.declared.point.Point.TheVariants as points

@@ -2,7 +2,7 @@
 use Rattle.std.proofs.Common.{◌≡◌, ℕ, ◌<◌, [], filter, refl, sym, subst}
 use Rattle.std.proofs.lemmas.List.{append-nil}
 use Rattle.heap_words.specs.declared.spot.Spot.{Spot}
-use Rattle.core_rule.proofs.Terms.{Heap, is_of, target_of, State, seat_at, has_barrier_of, Seat, IsMachine, Book, Awaits, IsAnswered, node_at, IsAwaited, Rule, AccessStands}
+use Rattle.core_rule.proofs.Terms.{Heap, is_of, target_of, State, seat_at, Seat, IsMachine, Book, Awaits, IsAnswered, node_at, IsAwaited, Rule, AccessStands}
 use Rattle.core_machine.specs.declared.table.address.Address.{Address}
 use Rattle.core_machine.specs.declared.point.Access.{Access}
 use Rattle.core_machine.specs.declared.point.Point.TheVariants as points
