@@ -35,9 +35,9 @@ pub record IsGot (tells : Step → ℕ → Type 0) (command : Command) (before k
   pub held : IsHeldOf tells word register (head_of word)
   pub value_is : value ≡ value_of register
   pub kept_is : kept ≡ kept_replied kept.looks.seen (record before {
-        registers = slice_set before.registers (target_of command) register;
-        seen = slice_set before.seen (target_of command) stamp;
-      })
+    registers = slice_set before.registers (target_of command) register;
+    seen = slice_set before.seen (target_of command) stamp;
+  })
 
 -- what a set or a compare and swap puts into its field: the register's value, under the stamp of the seat's next set
 abbrev pub word_to_set : ℕ → Command → Kept → ℕ

@@ -74,12 +74,10 @@ impl<L: Entries> SeatParty<L> {
         match command {
             Command::New { .. } => self.go_on(heap),
             Command::Array { .. } => self.point = Point::Making(Making::Granting),
-            Command::Get { .. }
-            | Command::Set { .. }
-            | Command::Cas { .. }
-            | Command::Len { .. } => {
-                self.open(Operands::of(&command).object);
-            }
+            Command::Get { .. } | Command::Set { .. } | Command::Cas { .. } | Command::Len { .. } =>
+                {
+                    self.open(Operands::of(&command).object);
+                }
             Command::Poll => self.point = Point::Polling(Polling::Asking),
             Command::Leave => self.go(),
             Command::Num { .. }

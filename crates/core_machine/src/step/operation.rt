@@ -31,13 +31,7 @@ impl Operation {
         match *self {
             Operation::Load => found,
             Operation::Store(word) | Operation::Exchange(word) => word,
-            Operation::CompareExchange { old, new } => {
-                if found == old {
-                    new
-                } else {
-                    found
-                }
-            },
+            Operation::CompareExchange { old, new } => { if found == old { new } else { found } },
             Operation::Or(bits) => found | bits,
             Operation::And(bits) => found & bits,
             Operation::Add(number) => found.wrapping_add(number),
