@@ -134,7 +134,7 @@ pub record IsWritten (g : Graph) (e : Entry) (value : Value) (j t : ℕ) : Type 
   pub stamp : new.stamp ≡ set_stamp seat ((own g seat).sets + 1)
 
 module _ (g : Graph) (number r i v stamp : ℕ) (command : Command) (sets : change_of (own g number) number command (replies.Was stamp) ≡ with_set (own g number) number r i v)
-  (sound : IsSound g) (at : IsSetAt g number (register_value g number r) i stamp) where
+    (sound : IsSound g) (at : IsSetAt g number (register_value g number r) i stamp) where
   abbrev its_entry : Entry
   its_entry = entries.Said number command (replies.Was stamp)
 

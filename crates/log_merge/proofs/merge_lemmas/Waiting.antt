@@ -61,8 +61,7 @@ shown_before : (heap : Heap) (logs : List (List Entry)) (placed rest earlier lat
     → (seat ≡ number) × (values_of (own (graph_of heap (part_of heap number placed ++ earlier)) number) ≡ fold registers_after (registers_of (part_of heap number placed)) earlier)
 shown_before heap logs placed rest earlier later x number seat completion within parted its =
     let there = parted_filter (is_in_log heap number) rest earlier later x (sym (left_of-rest heap logs placed rest number completion.kept within) ∙ parted) in
-    let log = seat_entry_in_own_log heap number seat x its there.passes in
-    (
+    let log = seat_entry_in_own_log heap number seat x its there.passes in (
       log.1,
       subst (λ es. values_of (own (graph_of heap (part_of heap number placed ++ es)) number) ≡ fold registers_after (registers_of (part_of heap number placed)) es) there.before
           (shown_at heap logs placed rest there.front (x ∷ there.back) number completion there.parted log.0),
@@ -70,7 +69,7 @@ shown_before heap logs placed rest earlier later x number seat completion within
 
 -- a get by the log's registers is one by the graph's
 module _ (heap : Heap) (placed earlier : List Entry) (number : ℕ) (kind : PendingGet)
-  (shown : values_of (own (graph_of heap (part_of heap number placed ++ earlier)) number) ≡ fold registers_after (registers_of (part_of heap number placed)) earlier) where
+    (shown : values_of (own (graph_of heap (part_of heap number placed ++ earlier)) number) ≡ fold registers_after (registers_of (part_of heap number placed)) earlier) where
   abbrev held : List Value
   held = fold registers_after (registers_of (part_of heap number placed)) earlier
 

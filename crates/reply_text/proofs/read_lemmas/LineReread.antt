@@ -19,7 +19,7 @@ use Rattle.reply_text.specs.read.EntryWords.{seat_entry}
 use Rattle.reply_text.specs.read.Tokens.{◌>>=◌, after_word}
 use Rattle.reply_text.specs.Written.{IsWritten}
 use Rattle.reply_text.proofs.read_lemmas.Answered.{answer_at-words, turning_at-words, cycling_at-words}
-use Rattle.reply_text.proofs.read_lemmas.CommandReading.{first_command, first_command-words}
+use Rattle.reply_text.proofs.read_lemmas.CommandReading.{answered_command_is_spelled, first_command, first_command-words}
 use Rattle.reply_text.proofs.read_lemmas.Reread.{number_at-decimal, decimal-other, id_of-word}
 
 -- what follows a seat's command
