@@ -15,12 +15,8 @@ const OTHERS: u32 = 0x800_0001;
 
 /// The value of register 1 goes into the board's field 3, where that is as this register was read.
 fn replace(a: u8) -> Command {
-    Cas {
-        r: 0,
-        i: 3,
-        a,
-        v: 1,
-    }
+    let (r, i, v) = (0, 3, 1);
+    Cas { r, i, a, v }
 }
 
 /// A number that is read from there.

@@ -60,10 +60,10 @@ fn access_text(alloc: Global, step: AccessStep) -> Result<String, AllocError> {
             word,
         } => format!(in alloc; "swap {fragment}.{part} {word:x}"),
         AccessStep::CompareSwap {
-            fragment,
-            part,
             old,
             new,
+            fragment,
+            part,
         } => format!(in alloc; "compare {fragment}.{part} {old:x} {new:x}"),
     }
 }
