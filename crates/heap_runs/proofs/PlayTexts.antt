@@ -102,7 +102,8 @@ line_has_text : (way : Allocating) (heap : Heap) (paced : Bool) (seats : ℕ) (e
 line_has_text Once heap paced seats earlier line told had is stands = once_has_text paced seats earlier line told is stands
 line_has_text Pressed heap paced seats earlier (lines.Seat number (commands.New d fields)) told had is stands = press_has_text heap paced earlier number (commands.New d fields) told had tt stands
 line_has_text Pressed heap paced seats earlier (lines.Seat number (commands.Array d cells)) told had is stands = press_has_text heap paced earlier number (commands.Array d cells) told had tt stands
-line_has_text Pressed heap paced seats earlier line told had is stands = once_has_text paced seats earlier line told is stands
+line_has_text Pressed heap paced seats earlier (lines.Seat number command) told had is stands = once_has_text paced seats earlier (lines.Seat number command) told is stands
+line_has_text Pressed heap paced seats earlier (lines.Turns command) told had is stands = once_has_text paced seats earlier (lines.Turns command) told is stands
 
 lines_have_text : (way : Allocating) (heap : Heap) (paced : Bool) (seats : ℕ) (earlier : List Entry) (script : List Line) (told : List Entry) → HaveText earlier → AllByRecursion (IsLine Play seats) script
     → StandForEach (StandsByWay way heap paced) earlier script told → HaveText told
