@@ -1,23 +1,18 @@
 -- At most as many ids are reached as there are objects.
-use Rattle.std.proofs.Common.{◌≡◌, ℕ, zero, suc, ◌+◌, ◌<◌, ◌≤◌, List, [], ◌∷◌, inl, inr, length, get_or, map, replicate, set, slice_get, is_some, AllPairs, Contains, refl, ap, ◌∙◌, arith}
+use Rattle.std.proofs.Common.{◌≡◌, ℕ, zero, suc, ◌+◌, ◌<◌, ◌≤◌, List, [], ◌∷◌, inl, inr, length, get_or, map, replicate, slice_get, is_some, AllPairs, Contains, refl, ap, ◌∙◌, arith}
 use Rattle.std.specs.Prelude.{sum, IsSome}
 use Rattle.std.proofs.Math.ListN.{get_or-map}
-use Rattle.std.proofs.lemmas.Bool.{cases_lt, cases_Bool, cond-true, cond-false}
-use Rattle.std.proofs.lemmas.List.{set_past}
+use Rattle.std.proofs.lemmas.Bool.{cases_lt}
 use Rattle.std.proofs.lemmas.List.Elements.{Contains-get_or}
-use Rattle.std.proofs.lemmas.List.Sums.{sum_by-cons, sum_by-set}
+use Rattle.std.proofs.lemmas.List.Sums.{sum_by-cons}
 use Rattle.std.proofs.lemmas.Option.{slice_get_past}
-use Rattle.heap_model.specs.declared.entry.Entry.{Entry}
-use Rattle.heap_model.specs.declared.entry.Entry.TheVariants as entries
 use Rattle.heap_model.specs.declared.heap.Heap.{Heap}
 use Rattle.heap_model.specs.declared.id.Id.{Id}
 use Rattle.heap_model.specs.declared.id.Id.TheVariants.{Board, Made}
 use Rattle.heap_model.specs.graph.Graph.{GraphSeat, Graph, opening, opening_graph_seat}
-use Rattle.heap_model.specs.graph.Growth.{after_entry, counts_after, makes}
 use Rattle.heap_model.specs.graph.Objects.{absent_graph_seat, graph_seat, made_counts}
 use Rattle.heap_model.specs.graph.Reach.{IsBefore, IsMade, IsReach, Reaches, from_register, from_cell}
 use Rattle.heap_model.proofs.graph_lemmas.Heads.{contains_head, contains_tail, pairs_head, pairs_tail}
-use Rattle.heap_model.proofs.graph_lemmas.MadeLemmas.{made_counts-after}
 
 -- how many objects the seats before this one made
 abbrev made_before : List ℕ → ℕ → ℕ

@@ -1,4 +1,4 @@
-use Rattle.std.proofs.Common.{[], get_or, take, sym, ap, subst, ◌∙◌}
+use Rattle.std.proofs.Common.{take, sym, ap, subst, ◌∙◌}
 use Rattle.std.proofs.lemmas.List.{take_all, take_more}
 use Rattle.heap_model.specs.account.Cycles.{graph_of}
 use Rattle.heap_model.specs.graph.Graph.{opening}

@@ -1,6 +1,4 @@
-use Rattle.std.proofs.Common.{◌+◌, ◌≤◌, sym, ◌∙◌, subst, arith}
-use Rattle.heap_model.specs.declared.heap.Heap.{Heap}
-use Rattle.heap_model.specs.account.Noting.{IsSeatBelow}
+use Rattle.std.proofs.Common.{◌+◌, ◌≤◌, arith}
 use Rattle.space_plan.proofs.plan_lemmas.WalkLemmas.{Passed-more}
 use Rattle.space_plan.proofs.planning.walk.Walk.pass.Goals as goal
 
