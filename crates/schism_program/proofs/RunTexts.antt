@@ -42,7 +42,7 @@ told_have_text g (entries.Said number command reply ∷ told) accepts spelled =
     let entry = entries.Said number command reply in (
       first_is_spelled number command (commands_told number told) (spelled number (present_seat_is_there g number accepts.0.0)),
       told_have_text (after_entry g entry) told accepts.1 (λ other within.
-      all_behind IsSpelled (if number == other then command ∷ [] else []) (commands_told other told) (spelled other (subst (λ n. other < n) (seat_count_after_entry g entry) within))),
+          all_behind IsSpelled (if number == other then command ∷ [] else []) (commands_told other told) (spelled other (subst (λ n. other < n) (seat_count_after_entry g entry) within))),
     )
 told_have_text g (entry ∷ told) accepts spelled = (tt, told_have_text g told accepts.1 spelled)
 

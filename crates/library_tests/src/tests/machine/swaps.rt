@@ -85,7 +85,12 @@ fn shades_what_is_expected(rt: HostRuntime) -> Result<(), Fail> {
     holds(&rt, begin(&mut machine, 0, &cas)?, &at);
     for wanted in STEPS {
         let (step, found) = step(&mut machine, 0)?;
-        same(&rt, &step_text(alloc, &step, found)?.as_str(), wanted, wanted);
+        same(
+            &rt,
+            &step_text(alloc, &step, found)?.as_str(),
+            wanted,
+            wanted,
+        );
     }
     Ok(())
 }
