@@ -1,3 +1,6 @@
+pub mod Crews
+pub mod Jobs
+pub mod Leaving
 pub mod Positions
 pub mod Runs
 pub mod Working

@@ -5,5 +5,5 @@ use Rattle.script_crew.specs.Working.{HaveRun}
 use Rattle.script_crew.proofs.crew.join_all.Given as goal
 
 abbrev pub invariant-loop-one : goal.invariant-loop-one
-invariant-loop-one l =
-    IsPassOf l.queue l.pass × HaveRun l.jobs (view l.fn.pass) (length l.yielded) (view l.pass) l.crew × (l.yielded ++ into_iter_items l.one-iterator ≡ l.fn.done.items)
+invariant-loop-one g l =
+    IsPassOf l.queue l.pass × HaveRun l.jobs g.N.HeldName.table g.N.HeldName.heap (view l.fn.pass) (length l.yielded) (view l.pass) l.crew × (l.yielded ++ into_iter_items l.one-iterator ≡ l.fn.done.items)
