@@ -1,5 +1,5 @@
 -- What the calls of runs come to, and that a seat has numbers left for them.
-use Rattle.std.proofs.Common.{◌≡◌, ℕ, ◌+◌, ◌*◌, ◌<◌, ◌≤◌, List, [], ◌∷◌, ◌++◌, length, map, get_or, take, refl, sym, ap, ◌∙◌, subst, append_assoc, arith}
+use Rattle.std.proofs.Common.{◌≡◌, ℕ, zero, suc, ◌+◌, ◌*◌, ◌<◌, ◌≤◌, List, [], ◌∷◌, ◌++◌, length, map, get_or, take, refl, sym, ap, ◌∙◌, subst, append_assoc, arith}
 use Rattle.std.specs.Prelude.{All, sum_by}
 use Rattle.std.specs.List.{range_with_len, flat_map}
 use Rattle.std.proofs.lemmas.Grind.{flat_map-append}
@@ -61,10 +61,10 @@ may_make_behind start now front behind each may on = record {
 abbrev polled : Command → List Command
 polled command = command ∷ commands.Poll ∷ []
 
-pub polls_more : (commands : List Command) (k : ℕ) (d command : Command) → k < length commands → get_or commands k d ≡ command → with_polls (take (k + 1) commands) ≡ (with_polls (take k commands) ++ command ∷ []) ++ commands.Poll ∷ []
-polls_more commands k d command few is =
-    ap with_polls (take_more commands k d few ∙ ap (λ one. take k commands ++ one ∷ []) is)
-    ∙ (flat_map-append polled (take k commands) (command ∷ []) ∙ sym (append_assoc (with_polls (take k commands)) (command ∷ []) (commands.Poll ∷ [])))
+pub polls_more : (all : List Command) (k : ℕ) (d command : Command) → k < length all → get_or all k d ≡ command → with_polls (take (k + 1) all) ≡ (with_polls (take k all) ++ command ∷ []) ++ commands.Poll ∷ []
+polls_more all k d command few is =
+    ap with_polls (take_more all k d few ∙ ap (λ one. take k all ++ one ∷ []) is)
+    ∙ (flat_map-append polled (take k all) (command ∷ []) ∙ sym (append_assoc (with_polls (take k all)) (command ∷ []) (commands.Poll ∷ [])))
 
 -- a poll stands behind each
 length_with_polls : (commands : List Command) → length (with_polls commands) ≡ length commands + length commands
@@ -83,13 +83,13 @@ clears_of_script = All-map IsOfScript commands.Nil (range_with_len 1 15) (λ k d
     ((omega (arith, is), omega (arith, is, below)), λ e. cc e))
 
 -- and so are a job's commands with polls
-pub polls_of_script : (commands : List Command) → All IsOfJob commands → All IsOfScript (with_polls commands)
+pub polls_of_script : (all : List Command) → All IsOfJob all → All IsOfScript (with_polls all)
 polls_of_script [] each = All-nil IsOfScript
-polls_of_script (command ∷ commands) each =
-    subst (All IsOfScript) (sym (flat_map-cons polled command commands))
-    (All-append IsOfScript (polled command) (with_polls commands)
-    (All-cons IsOfScript command (commands.Poll ∷ []) (All-head IsOfJob command commands each).0 (All-cons IsOfScript commands.Poll [] (tt, λ e. cc e) (All-nil IsOfScript)))
-    (polls_of_script commands (All-tail IsOfJob command commands each)))
+polls_of_script (command ∷ rest) each =
+    subst (All IsOfScript) (sym (flat_map-cons polled command rest))
+    (All-append IsOfScript (polled command) (with_polls rest)
+    (All-cons IsOfScript command (commands.Poll ∷ []) (All-head IsOfJob command rest each).0 (All-cons IsOfScript commands.Poll [] (tt, λ e. cc e) (All-nil IsOfScript)))
+    (polls_of_script rest (All-tail IsOfJob command rest each)))
 
 -- the calls of a run
 abbrev calls_of : Job → ℕ
@@ -141,3 +141,10 @@ may_run jobs old new position job seat count few each known popped within is use
 -- what is so of clearing and of what stands behind it is so of that
 pub behind_clears : (behind : List Command) → All IsOfScript (clears ++ behind) → All IsOfScript behind
 behind_clears behind each = All-drop IsOfScript 15 (clears ++ behind) each
+
+-- each command is of a script where all of them are, with their polls
+pub polled_at : (all : List Command) (k : ℕ) (d : Command) → k < length all → All IsOfScript (with_polls all) → IsOfScript (get_or all k d)
+polled_at (command ∷ rest) zero d few each = All-head IsOfScript command (commands.Poll ∷ with_polls rest) (subst (All IsOfScript) (flat_map-cons polled command rest) each)
+polled_at (command ∷ rest) (suc k) d few each =
+    polled_at rest k d (omega (arith, few)) (All-tail IsOfScript commands.Poll (with_polls rest) (All-tail IsOfScript command (commands.Poll ∷ with_polls rest) (subst (All IsOfScript) (flat_map-cons polled command rest) each)))
+polled_at [] k d few each = absurd (omega (arith, few))

@@ -17,7 +17,7 @@ use Rattle.heap_runs.specs.CollectCall.{IsPresent}
 use Rattle.heap_runs.specs.SeatWork.{HasMade, IsOfTable}
 use Rattle.crossbeam_queue.specs.declared.array_queue.Doing.{Doing}
 use Rattle.crossbeam_queue.specs.declared.array_queue.Slotted.{Slotted}
-use Rattle.script_crew.specs.declared.crew.Crew.{Crew}
+use Rattle.script_crew.specs.declared.gathering.Crew.{Crew}
 use Rattle.script_crew.specs.declared.job.Job.{Job}
 use Rattle.script_crew.specs.declared.job.JobRun.{JobRun}
 use Rattle.script_crew.specs.declared.position_rule.Tally.{Tally}

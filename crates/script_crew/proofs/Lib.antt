@@ -6,4 +6,4 @@ pub mod Running
 pub mod Joining
 pub mod Calls
 pub mod WholeCrew
-pub mod Leaving
+pub mod LeftSeats

@@ -1,5 +1,6 @@
 -- How the seats of a crew leave.
-use Rattle.std.specs.Prelude.{◌≡◌, ℕ, true, List, [], ◌∷◌, length, slice_get, Some}
+use Rattle.std.specs.Prelude.{◌≡◌, true, List, [], ◌∷◌}
+use Rattle.std.specs.List.{AllZip}
 use Rattle.heap_model.specs.declared.command.Command.TheVariants.{Leave}
 use Rattle.heap_table.specs.SeatHeld.{SeatHeld}
 use Rattle.heap_runs.specs.SeatWork.{HasMade}
@@ -10,6 +11,5 @@ pub record HasLeft (old new : SeatHeld) : Type 0 where
   pub left : new.seat.left ≡ true
 
 -- each seat has left, and they stand in the same order
-pub record HaveLeft (olds news : List SeatHeld) : Type 0 where
-  pub each_once : length news ≡ length olds
-  pub each : (position : ℕ) (old new : SeatHeld) → slice_get olds position ≡ Some old → slice_get news position ≡ Some new → HasLeft old new
+abbrev pub HaveLeft : List SeatHeld → List SeatHeld → Type 0
+HaveLeft olds news = AllZip HasLeft olds news

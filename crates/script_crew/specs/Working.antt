@@ -14,7 +14,7 @@ use Rattle.heap_runs.specs.SeatWork.{GoesOn, IsOfTable}
 use Rattle.script_crew.specs.declared.job.Job.{Job}
 use Rattle.script_crew.specs.declared.job.JobRun.{JobRun}
 use Rattle.script_crew.specs.declared.position_rule.Tally.{Tally}
-use Rattle.script_crew.specs.declared.crew.Crew.{Crew}
+use Rattle.script_crew.specs.declared.gathering.Crew.{Crew}
 use Rattle.script_crew.specs.declared.worker.Worker.{Worker}
 use Rattle.script_crew.specs.declared.worker.Worked.{Worked}
 use Rattle.script_crew.specs.Jobs.{calls_at, HasUsed}
@@ -87,3 +87,8 @@ module _ {Q A : Type 0} where
   -- each worker that came to its end has worked on the seat whose number is its position
   abbrev pub HaveWorked : Slotted (Option ℕ) (Doing ℕ Tally) Q A → List Job → TableId → Heap → List (Result Worked Memory) → Type 0
   HaveWorked queue jobs table heap ends = (position : ℕ) (end : Result Worked Memory) → slice_get ends position ≡ Some end → IfOk end (HasWorked queue jobs table heap position)
+
+  -- there are so many workers, and each that came to its end has worked
+  pub record HaveEnded (queue : Slotted (Option ℕ) (Doing ℕ Tally) Q A) (jobs : List Job) (table : TableId) (heap : Heap) (count : ℕ) (ends : List (Result Worked Memory)) : Type 0 where
+    pub each_once : length ends ≡ count
+    pub worked : HaveWorked queue jobs table heap ends

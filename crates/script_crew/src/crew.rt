@@ -1,20 +1,20 @@
-ghost use Rattle.std.specs.Prelude.{◌≡◌, ◌<◌, ◌≤◌, [], length, vec_len, All, IfOk};
+ghost use Rattle.std.specs.Prelude.{◌≡◌, ◌<◌, ◌≤◌, length, map, vec_len, All, IfOk};
 ghost use Rattle.std.specs.List.{range_with_len};
 ghost use Rattle.std.specs.List.Sorted.{IsStrictlyIncreasing};
-ghost use Rattle.crossbeam_queue.specs.Passes.{view, IsPassOf};
 ghost use Rattle.script_crew.specs.Crews.{IsFreshSeat, IsCrew, IsCrewRan};
 ghost use Rattle.script_crew.specs.Jobs.{IsJob, command_count};
-ghost use Rattle.script_crew.specs.Runs.{job_numbers, seat_numbers, AreWhole};
-ghost use Rattle.script_crew.specs.Working.{positions_of, HaveWorked, HaveRun, HasRunAll};
+ghost use Rattle.script_crew.specs.Runs.{job_numbers, seat_numbers};
+ghost use Rattle.script_crew.specs.Working.{IsFresh, HasWorked, HaveEnded, HasRunAll};
 
 use crate::filling::{equip, push_positions};
+use crate::gathering::{Crew, run_rest};
 use crate::job::{Job, JobRun};
 use crate::leaving::leave_all;
-use crate::position_rule::{PositionPass, PositionQueue, Sharing};
-use crate::worker::{Worked, run_popped};
-use crate::workers::work_all;
+use crate::position_rule::PositionQueue;
+use crate::worker::{Worked, Worker, work};
 use collector_turns::Collector;
 use heap_model::{Gate, Memory};
+use heap_record::{SlackWork, work_slack};
 use heap_runs::{Held, HeldName, finish};
 use heap_table::Closed;
 use mutator_seat::Seat;
@@ -22,15 +22,7 @@ use slack_pace::Pace;
 use std::alloc::Global;
 use std::marker::Brand;
 use std::sync::{Mutex, Wait};
-use std::thread::Threads;
-
-/// The seats of a crew, the runs of its jobs so far, and how many commands of jobs its first seat has begun.
-#[derive(Drop)]
-pub struct Crew {
-    pub seats: Vec<Seat>,
-    pub runs: Vec<JobRun>,
-    pub begun: u32,
-}
+use std::thread::{Threads, join, map_vec};
 
 /// What a crew came to: the closed table, and the runs of the jobs.
 #[derive(Drop)]
@@ -39,44 +31,8 @@ pub struct CrewRan {
     pub runs: Vec<JobRun>,
 }
 
-/// Takes in the workers' passes, and lists their seats, and their runs one worker behind the other.
-fn join_all<N: HeldName>(
-    alloc: Global,
-    queue: &PositionQueue,
-    jobs: &[Job],
-    pass: &mut PositionPass,
-    done: Vec<Result<Worked, Memory>>,
-) -> Result<Crew, Memory>
-    requires queue { IsPassOf queue.now pass.old }
-    requires some { 0 < (view pass.old).shares }
-    requires popped { (view pass.old).popped ≡ [] }
-    requires known { (view pass.old).known ≡ positions_of jobs.now }
-    requires worked { HaveWorked queue.now jobs.now N.table N.heap done.items }
-    ensures queue { IsPassOf queue.now pass.new }
-    ensures joined { IfOk result (λ crew. HaveRun jobs.now N.table N.heap (view pass.old) (vec_len done) (view pass.new) crew) }
-{
-    let mut crew = Crew {
-        seats: Vec::new(alloc),
-        runs: Vec::new(alloc),
-        begun: 0,
-    };
-    for one in done {
-        let Worked {
-            worker,
-            mut runs,
-            begun,
-        } = one?;
-        queue.absorb::<Sharing>(pass, worker.pass);
-        if crew.seats.is_empty() {
-            crew.begun = begun;
-        }
-        crew.seats.push(worker.seat)?;
-        crew.runs.append(&mut runs)?;
-    }
-    Ok(crew)
-}
-
-/// Runs the jobs on the seats, each seat's worker in a thread of its own, and what is left of them on the first seat.
+/// Runs the jobs on the seats, each seat's worker in a thread of its own, while one more makes the collector's slack turns until it is told under the lock that all workers have ended. Where a
+/// thread can't be had the caller does its work. What is left of the jobs then is run on the first seat.
 fn run_jobs<N: HeldName + Send + Sync, G: Gate, R: Threads + Wait + Sync>(
     rt: &R,
     alloc: Global,
@@ -100,23 +56,34 @@ fn run_jobs<N: HeldName + Send + Sync, G: Gate, R: Threads + Wait + Sync>(
     let queue = &queue;
     push_positions(rt, queue, &mut pass, jobs.len() as u32);
     let workers = equip(alloc, queue, &mut pass, seats)?;
-    let done = work_all(rt, alloc, held, queue, jobs, workers, gate)?;
-    let mut crew = join_all::<N>(alloc, queue, jobs, &mut pass, done)?;
-    let mut begun = crew.begun;
-    let mut rest = run_popped(
+    let (turns, done) = join(
         rt,
-        alloc,
-        held,
-        queue,
-        jobs,
-        &mut pass,
-        &mut crew.seats[0],
-        gate,
-        &mut begun,
-    )?;
-    crew.runs.append(&mut rest)?;
-    crew.runs.sort_unstable_by_key(|run: &JobRun| run.job);
-    Ok(crew)
+        move || work_slack(rt, held, &mut ()),
+        move || -> Result<Vec<Result<Worked, Memory>>, Memory>
+            requires count { length jobs.now ≤ 4096 }
+            requires commands { command_count jobs.now ≤ 1048576 }
+            requires jobs { All IsJob jobs.now }
+            requires fresh { All (IsFresh queue.now jobs.now N.table N.heap) workers.items }
+            requires numbered { map (λ worker. worker.seat.number) workers.items ≡ range_with_len 0 (vec_len workers) }
+            ensures { IfOk result (λ done. HaveEnded queue.entry.now jobs.entry.now N.table N.heap (vec_len workers) done.items) }
+        {
+            let done = map_vec(
+                rt,
+                workers,
+                &|worker: Worker| -> Result<Worked, Memory>
+                    requires count { length jobs.now ≤ 4096 }
+                    requires commands { command_count jobs.now ≤ 1048576 }
+                    requires jobs { All IsJob jobs.now }
+                    requires fresh { IsFresh queue.now jobs.now N.table N.heap worker }
+                    ensures { IfOk result (HasWorked queue.entry.now jobs.entry.now N.table N.heap worker.seat.number) }
+                { work(rt, alloc, held, queue, jobs, worker, gate) },
+            );
+            held.lock(rt).end();
+            Ok(done?)
+        },
+    );
+    turns?;
+    run_rest(rt, alloc, held, queue, jobs, &mut pass, done?, gate)
 }
 
 /// A crew whose table and collector its name tells.

@@ -1,4 +1,4 @@
-ghost use Rattle.std.specs.Prelude.{◌≤◌, ◌++◌, length, All, IfOk, OnOk};
+ghost use Rattle.std.specs.Prelude.{◌≡◌, ◌≤◌, length, IfOk, OnOk};
 ghost use Rattle.heap_runs.specs.SeatWork.{GoesOn, IsOfTable, MayWork};
 ghost use Rattle.script_crew.specs.Jobs.{script_of_run};
 ghost use Rattle.script_crew.specs.Runs.{clears, with_polls, IsRunOf};

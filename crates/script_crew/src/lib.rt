@@ -3,6 +3,7 @@
 
 mod crew;
 mod filling;
+mod gathering;
 mod job;
 mod job_run;
 mod leaving;
@@ -10,7 +11,6 @@ mod position_rule;
 #[cfg(test)]
 mod tests;
 mod worker;
-mod workers;
 
 pub use crew::{CrewRan, run_crew};
 pub use job::{Job, JobRun};

@@ -1,4 +1,4 @@
-ghost use Rattle.std.specs.Prelude.{◌≡◌, ◌<◌, ◌≤◌, All, IfOk, OnOk};
+ghost use Rattle.std.specs.Prelude.{◌≡◌, ◌<◌, ◌≤◌, length, All, IfOk, OnOk};
 ghost use Rattle.crossbeam_queue.specs.Fifo.{Held as HeldItems};
 ghost use Rattle.crossbeam_queue.specs.Passes.{view, IsPassOf};
 ghost use Rattle.script_crew.specs.Jobs.{IsJob, command_count};
@@ -82,7 +82,7 @@ pub fn work<N: HeldName, G: Gate, R: Wait>(
     ensures { IfOk result (HasWorked queue.now jobs.now N.table N.heap worker.seat.number) }
 {
     let mut begun = 0;
-    let runs = run_popped(
+    let ran = run_popped(
         rt,
         alloc,
         held,
@@ -94,9 +94,10 @@ pub fn work<N: HeldName, G: Gate, R: Wait>(
         &mut begun,
     );
     held.lock(rt).end_one();
+    let runs = ran?;
     Ok(Worked {
         worker,
-        runs: runs?,
+        runs,
         begun,
     })
 }

@@ -6,7 +6,7 @@ use Rattle.heap_model.specs.declared.entry.Entry.{Entry}
 use Rattle.heap_model.specs.declared.heap.Heap.{Heap}
 use Rattle.heap_runs.specs.Finishing.{HasGone, HasLogs}
 use Rattle.heap_runs.proofs.RunsEnd.{has_logs_from_before}
-use Rattle.script_crew.proofs.Leaving.{all_gone, numbers_stay_so, whole_still}
+use Rattle.script_crew.proofs.LeftSeats.{all_gone, numbers_stay_so, whole_still}
 use Rattle.script_crew.proofs.crew.run_named.Goals as goal
 
 pub finish-requires-clause-gone : goal.finish-requires-clause-gone

@@ -2,7 +2,7 @@ use Rattle.std.proofs.Common.{◌≡◌, ◌++◌, length}
 use Rattle.std.specs.Vec.Iter.{into_iter_items}
 use Rattle.crossbeam_queue.specs.Passes.{view, IsPassOf}
 use Rattle.script_crew.specs.Working.{HaveRun}
-use Rattle.script_crew.proofs.crew.join_all.Given as goal
+use Rattle.script_crew.proofs.gathering.join_all.Given as goal
 
 abbrev pub invariant-loop-one : goal.invariant-loop-one
 invariant-loop-one g l =

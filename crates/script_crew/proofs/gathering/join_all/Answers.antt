@@ -2,12 +2,12 @@ use Rattle.std.proofs.Common.{◌≡◌, ◌+◌, ◌∷◌, [], ◌++◌, lengt
 use Rattle.std.specs.Vec.Iter.{into_iter_items}
 use Rattle.std.proofs.lemmas.List.{length-append}
 use Rattle.crossbeam_queue.specs.Passes.{view}
-use Rattle.script_crew.specs.declared.crew.Crew.{Crew}
+use Rattle.script_crew.specs.declared.gathering.Crew.{Crew}
 use Rattle.script_crew.specs.declared.position_rule.Tally.{Tally}
 use Rattle.script_crew.specs.Working.{HaveRun}
-use Rattle.script_crew.proofs.Joining.{next_has_worked, one_more_joined}
+use Rattle.script_crew.proofs.Joining.{next_has_worked, none_joined, one_more_joined}
 use Rattle.script_crew.proofs.PassMoves.{keeps-merge}
-use Rattle.script_crew.proofs.crew.join_all.Goals as goal
+use Rattle.script_crew.proofs.gathering.join_all.Goals as goal
 
 pub absorb-requires-clause-rule : goal.absorb-requires-clause-rule
 absorb-requires-clause-rule g c = keeps-merge _ _ _ _ (omega (arith, ap (λ (one : Tally). one.shares) c.loop-one.invariant.1.popped, c.requires.some))
@@ -26,7 +26,7 @@ loop-one-preserved g c =
     let all = ap (λ ends. yielded ++ ends) (sym c.in-Some.ensures.steps.0) ∙ c.loop-one.invariant.2 in
     let worked = next_has_worked c.args.queue.now c.args.jobs.now g.N.HeldName.table g.N.HeldName.heap c.args.done.items yielded rest c.in-Some.one ended c.requires.worked all c.in_ok-worker.was in
     let count : length (yielded ++ c.in-Some.one ∷ []) ≡ length yielded + 1 = length-append yielded (c.in-Some.one ∷ []) in
-    let later : Crew = record { seats = c.push.new.self; runs = c.append.new.self; begun = _ } in (
+    let later : Crew = record { seats = c.push.new.self; begun = c.push-2.new.self; runs = c.append.new.self } in (
       (c.absorb.ensures.queue.0 ∙ c.loop-one.invariant.0.0, c.absorb.ensures.queue.2 ∙ c.loop-one.invariant.0.1),
       subst (λ n. HaveRun c.args.jobs.now g.N.HeldName.table g.N.HeldName.heap (view c.args.pass.now) n (view c.absorb.new.pass) later) (sym count)
           (one_more_joined c.args.jobs.now g.N.HeldName.table g.N.HeldName.heap (view c.args.pass.now) (view c.loop-one.pass) (view ended.worker.pass) (view c.absorb.new.pass) (length yielded) c.loop-one.crew later worked.before
