@@ -1,28 +1,27 @@
-ghost use Rattle.std.specs.Prelude.{◌≡◌, ◌<◌, ◌≤◌, length, map, vec_len, All, IfOk};
+ghost use Rattle.std.specs.Prelude.{◌≡◌, ◌<◌, ◌≤◌, length, vec_len, All, IfOk};
 ghost use Rattle.std.specs.List.{range_with_len};
 ghost use Rattle.std.specs.List.Sorted.{IsStrictlyIncreasing};
 ghost use Rattle.script_crew.specs.Crews.{IsFreshSeat, IsCrew, IsCrewRan};
 ghost use Rattle.script_crew.specs.Jobs.{IsJob, command_count};
 ghost use Rattle.script_crew.specs.Runs.{job_numbers, seat_numbers};
-ghost use Rattle.script_crew.specs.Working.{IsFresh, HasWorked, HaveEnded, HasRunAll};
+ghost use Rattle.script_crew.specs.Working.{HasRunAll};
 
 use crate::filling::{equip, push_positions};
 use crate::gathering::{Crew, run_rest};
 use crate::job::{Job, JobRun};
 use crate::leaving::leave_all;
 use crate::position_rule::PositionQueue;
-use crate::worker::{Worked, Worker, work};
+use crate::shift::{Shift, work_all};
 use collector_turns::Collector;
 use heap_model::{Gate, Memory};
-use heap_record::{SlackWork, work_slack};
 use heap_runs::{Held, HeldName, finish};
 use heap_table::Closed;
 use mutator_seat::Seat;
 use slack_pace::Pace;
 use std::alloc::Global;
-use std::marker::Brand;
+use std::marker::{Brand, PhantomData};
 use std::sync::{Mutex, Wait};
-use std::thread::{Threads, join, map_vec};
+use std::thread::Threads;
 
 /// What a crew came to: the closed table, and the runs of the jobs.
 #[derive(Drop)]
@@ -31,8 +30,7 @@ pub struct CrewRan {
     pub runs: Vec<JobRun>,
 }
 
-/// Runs the jobs on the seats, each seat's worker in a thread of its own, while one more makes the collector's slack turns until it is told under the lock that all workers have ended. Where a
-/// thread can't be had the caller does its work. What is left of the jobs then is run on the first seat.
+/// Runs the jobs on the seats, each seat's worker in a thread of its own, and what is left of them then on the first seat.
 fn run_jobs<N: HeldName + Send + Sync, G: Gate, R: Threads + Wait + Sync>(
     rt: &R,
     alloc: Global,
@@ -56,34 +54,14 @@ fn run_jobs<N: HeldName + Send + Sync, G: Gate, R: Threads + Wait + Sync>(
     let queue = &queue;
     push_positions(rt, queue, &mut pass, jobs.len() as u32);
     let workers = equip(alloc, queue, &mut pass, seats)?;
-    let (turns, done) = join(
-        rt,
-        move || work_slack(rt, held, &mut ()),
-        move || -> Result<Vec<Result<Worked, Memory>>, Memory>
-            requires count { length jobs.now ≤ 4096 }
-            requires commands { command_count jobs.now ≤ 1048576 }
-            requires jobs { All IsJob jobs.now }
-            requires fresh { All (IsFresh queue.now jobs.now N.table N.heap) workers.items }
-            requires numbered { map (λ worker. worker.seat.number) workers.items ≡ range_with_len 0 (vec_len workers) }
-            ensures { IfOk result (λ done. HaveEnded queue.entry.now jobs.entry.now N.table N.heap (vec_len workers) done.items) }
-        {
-            let done = map_vec(
-                rt,
-                workers,
-                &|worker: Worker| -> Result<Worked, Memory>
-                    requires count { length jobs.now ≤ 4096 }
-                    requires commands { command_count jobs.now ≤ 1048576 }
-                    requires jobs { All IsJob jobs.now }
-                    requires fresh { IsFresh queue.now jobs.now N.table N.heap worker }
-                    ensures { IfOk result (HasWorked queue.entry.now jobs.entry.now N.table N.heap worker.seat.number) }
-                { work(rt, alloc, held, queue, jobs, worker, gate) },
-            );
-            held.lock(rt).end();
-            Ok(done?)
-        },
-    );
-    turns?;
-    run_rest(rt, alloc, held, queue, jobs, &mut pass, done?, gate)
+    let shift = Shift::<N> {
+        queue,
+        jobs,
+        workers,
+        name: PhantomData,
+    };
+    let done = work_all(rt, alloc, held, shift, gate)?;
+    run_rest(rt, alloc, held, queue, jobs, &mut pass, done, gate)
 }
 
 /// A crew whose table and collector its name tells.

@@ -8,6 +8,7 @@ mod job;
 mod job_run;
 mod leaving;
 mod position_rule;
+mod shift;
 #[cfg(test)]
 mod tests;
 mod worker;

@@ -65,8 +65,8 @@ pub fn run_popped<N: HeldName, G: Gate, R: Wait>(
     unreachable!()
 }
 
-/// Runs each job whose position the worker pops, until the queue is empty, and tells under the lock that this worker has ended, also where memory is wanting.
-pub fn work<N: HeldName, G: Gate, R: Wait>(
+/// Runs each job whose position the worker pops, until the queue is empty.
+fn run_all<N: HeldName, G: Gate, R: Wait>(
     rt: &R,
     alloc: Global,
     held: &Mutex<Held<N>>,
@@ -82,7 +82,7 @@ pub fn work<N: HeldName, G: Gate, R: Wait>(
     ensures { IfOk result (HasWorked queue.now jobs.now N.table N.heap worker.seat.number) }
 {
     let mut begun = 0;
-    let ran = run_popped(
+    let runs = run_popped(
         rt,
         alloc,
         held,
@@ -92,12 +92,31 @@ pub fn work<N: HeldName, G: Gate, R: Wait>(
         &mut worker.seat,
         gate,
         &mut begun,
-    );
-    held.lock(rt).end_one();
-    let runs = ran?;
+    )?;
     Ok(Worked {
         worker,
         runs,
         begun,
     })
+}
+
+/// Does the work of the worker, and tells under the lock that it has ended, also where memory is wanting.
+pub fn work<N: HeldName, G: Gate, R: Wait>(
+    rt: &R,
+    alloc: Global,
+    held: &Mutex<Held<N>>,
+    queue: &PositionQueue,
+    jobs: &[Job],
+    worker: Worker,
+    gate: &G,
+) -> Result<Worked, Memory>
+    requires count { length jobs.now ≤ 4096 }
+    requires commands { command_count jobs.now ≤ 1048576 }
+    requires jobs { All IsJob jobs.now }
+    requires fresh { IsFresh queue.now jobs.now N.table N.heap worker }
+    ensures { IfOk result (HasWorked queue.now jobs.now N.table N.heap worker.seat.number) }
+{
+    let worked = run_all(rt, alloc, held, queue, jobs, worker, gate);
+    held.lock(rt).end_one();
+    worked
 }

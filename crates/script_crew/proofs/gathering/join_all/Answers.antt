@@ -26,7 +26,7 @@ loop-one-preserved g c =
     let all = ap (λ ends. yielded ++ ends) (sym c.in-Some.ensures.steps.0) ∙ c.loop-one.invariant.2 in
     let worked = next_has_worked c.args.queue.now c.args.jobs.now g.N.HeldName.table g.N.HeldName.heap c.args.done.items yielded rest c.in-Some.one ended c.requires.worked all c.in_ok-worker.was in
     let count : length (yielded ++ c.in-Some.one ∷ []) ≡ length yielded + 1 = length-append yielded (c.in-Some.one ∷ []) in
-    let later : Crew = record { seats = c.push.new.self; begun = c.push-2.new.self; runs = c.append.new.self } in (
+    let later : Crew = record { seats = c.push.new.self; begun = c.push-in-loop-one.new.self; runs = c.append.new.self } in (
       (c.absorb.ensures.queue.0 ∙ c.loop-one.invariant.0.0, c.absorb.ensures.queue.2 ∙ c.loop-one.invariant.0.1),
       subst (λ n. HaveRun c.args.jobs.now g.N.HeldName.table g.N.HeldName.heap (view c.args.pass.now) n (view c.absorb.new.pass) later) (sym count)
           (one_more_joined c.args.jobs.now g.N.HeldName.table g.N.HeldName.heap (view c.args.pass.now) (view c.loop-one.pass) (view ended.worker.pass) (view c.absorb.new.pass) (length yielded) c.loop-one.crew later worked.before

@@ -10,7 +10,7 @@ use Rattle.script_crew.proofs.WholeCrew.{first_at_work, has_run_all}
 use Rattle.script_crew.proofs.gathering.run_rest.Goals as goal
 
 pub run_popped-requires-clause-seat : goal.run_popped-requires-clause-seat
-run_popped-requires-clause-seat g c =
+run_popped-requires-clause-seat g c κs within =
     let crew = c.in_ok-crew.crew in
     let had = c.in_ok-crew.ensures.joined in
     first_at_work c.args.jobs.now g.N.HeldName.table g.N.HeldName.heap (view c.args.pass.now) (view c.join_all.new.pass) _ crew _ had (omega (arith, had.count, c.requires.some)) c.index_mut.ensures.value

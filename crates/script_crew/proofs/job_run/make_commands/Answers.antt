@@ -18,8 +18,8 @@ make_command-requires-clause-may g c =
     may_make_next c.args.seat.now c.loop-command.seat (with_polls commands) (with_polls (take k commands)) _ c.requires.may c.loop-command.invariant (omega (arith, polls_left commands k c.loop-command-test.true))
     (polled_at commands k _ c.loop-command-test.true c.requires.may.each)
 
-pub make_command-requires-2-clause-may : goal.make_command-requires-2-clause-may
-make_command-requires-2-clause-may g c =
+pub make_command-requires-in-loop-command-clause-may : goal.make_command-requires-in-loop-command-clause-may
+make_command-requires-in-loop-command-clause-may g c =
     let commands = c.args.commands.now in
     let k = c.loop-command.command-index in
     let made = with_polls (take k commands) in
@@ -32,5 +32,5 @@ loop-command-preserved g c =
     let k = c.loop-command.command-index in
     let made = with_polls (take k commands) in
     let one = goes_then 1 c.args.seat.now c.loop-command.seat c.make_command.new.seat made (_ ∷ []) c.loop-command.invariant c.in_ok-make_command.ensures in
-    subst (GoesOn 1 c.args.seat.now c.make_command-2.new.seat) (sym (polls_more commands k _ _ c.loop-command-test.true refl))
-    (goes_then 1 c.args.seat.now c.make_command.new.seat c.make_command-2.new.seat (made ++ _ ∷ []) (Poll ∷ []) one c.in_ok-make_command-2.ensures)
+    subst (GoesOn 1 c.args.seat.now c.make_command-in-loop-command.new.seat) (sym (polls_more commands k _ _ c.loop-command-test.true refl))
+    (goes_then 1 c.args.seat.now c.make_command.new.seat c.make_command-in-loop-command.new.seat (made ++ _ ∷ []) (Poll ∷ []) one c.in_ok-make_command-2.ensures)

@@ -18,10 +18,10 @@ bounds-jobs-position g c =
     position_has_job c.args.jobs.now (view c.loop.pass) (view c.pop_as.new.pass) c.in-Some-pop_as.position (ap (λ (one : Tally). one.known) c.loop.invariant.1.popped ∙ c.requires.known) c.in-Some-pop_as.ensures.rule
 
 pub run_job-requires-clause-table : goal.run_job-requires-clause-table
-run_job-requires-clause-table g c = stays_of_table g.N.HeldName.table g.N.HeldName.heap c.args.seat.now c.loop.seat c.loop.invariant.1.commands c.requires.seat.of_table c.loop.invariant.1.goes_on
+run_job-requires-clause-table g c κs within = stays_of_table g.N.HeldName.table g.N.HeldName.heap c.args.seat.now c.loop.seat c.loop.invariant.1.commands c.requires.seat.of_table c.loop.invariant.1.goes_on
 
 pub run_job-requires-clause-may : goal.run_job-requires-clause-may
-run_job-requires-clause-may g c =
+run_job-requires-clause-may g c κs within =
     let jobs = c.args.jobs.now in
     let had = c.loop.invariant.1 in
     let position = c.in-Some-pop_as.position in

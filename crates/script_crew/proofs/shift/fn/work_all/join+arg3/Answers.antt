@@ -5,7 +5,7 @@ use Rattle.heap_model.specs.declared.fault.Memory.{Memory}
 use Rattle.script_crew.specs.declared.worker.Worked.{Worked}
 use Rattle.script_crew.specs.Working.{HasWorked}
 use Rattle.script_crew.proofs.Joining.{worker_number}
-use Rattle.script_crew.proofs.crew.fn.run_jobs.join+arg3.Goals as goal
+use Rattle.script_crew.proofs.shift.fn.work_all.join+arg3.Goals as goal
 
 pub returns : goal.returns
 returns g c =
