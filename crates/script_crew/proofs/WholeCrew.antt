@@ -4,6 +4,7 @@ use Rattle.std.specs.Prelude.{All, IsPermutation, Option, sum_by}
 use Rattle.std.specs.List.{range_with_len}
 use Rattle.std.specs.List.Sorted.{IsNonDecreasingBy, IsStrictlyIncreasing}
 use Rattle.std.proofs.lemmas.List.{length-map, get_or-map}
+use Rattle.std.proofs.lemmas.List.FromFn.{length-range_with_len}
 use Rattle.std.proofs.lemmas.List.Elements.{All-cons, All-tail, All-weaker, All-get_or}
 use Rattle.atomic_table.specs.Seated.{TableId}
 use Rattle.heap_model.specs.declared.heap.Heap.{Heap}
@@ -39,6 +40,10 @@ seat_of worker = worker.seat
 pub as_many : (workers : List Worker) (seats : List SeatHeld) → map (λ worker. worker.seat) workers ≡ seats → length workers ≡ length seats
 as_many workers seats are = sym (length-map workers seat_of) ∙ ap (λ xs. length xs) are
 
+-- there are as many seats as are numbered
+pub seats_of_all : (seats : List SeatHeld) (n : ℕ) → seat_numbers seats ≡ range_with_len 0 n → length seats ≡ n
+seats_of_all seats n numbered = sym (length-map seats (λ (seat : SeatHeld). seat.number)) ∙ (ap (λ xs. length xs) numbered ∙ length-range_with_len 0 n)
+
 -- each worker is as fresh as its seat
 pub workers_are_fresh : {Q A : Type 0} (queue : Slotted (Option ℕ) (Doing ℕ Tally) Q A) (jobs : List Job) (table : TableId) (heap : Heap) (workers : List Worker) (seats : List SeatHeld)
     → All (HasFreshPass queue (positions_of jobs)) workers → map (λ worker. worker.seat) workers ≡ seats → All (IsFreshSeat table heap) seats → All (IsFresh queue jobs table heap) workers
@@ -63,7 +68,6 @@ module _ (jobs : List Job) (table : TableId) (heap : Heap) (first old : Tally) (
   pub first_at_work : IsAtWork jobs table heap old.popped before
   first_at_work = subst (λ positions. IsAtWork jobs table heap positions before) (sym (ap (λ (one : Tally). one.popped) had.popped))
       (subst (IsAtWork jobs table heap had.positions) (sym is) (All-get_or (IsAtWork jobs table heap had.positions) crew.seats.items 0 before some had.at_work))
-
 
   module _ (new : Tally) (after : SeatHeld) (rest : List JobRun) (ran : HasRun jobs old new before after rest) where
     -- what is so of each seat is so once the first has gone on

@@ -3,4 +3,5 @@ pub mod Jobs
 pub mod Leaving
 pub mod Positions
 pub mod Runs
+pub mod Tasks
 pub mod Working

@@ -11,7 +11,7 @@ use crate::gathering::{Crew, run_rest};
 use crate::job::{Job, JobRun};
 use crate::leaving::leave_all;
 use crate::position_rule::PositionQueue;
-use crate::shift::{Shift, work_all};
+use crate::shift::work_all;
 use collector_turns::Collector;
 use heap_model::{Gate, Memory};
 use heap_runs::{Held, HeldName, finish};
@@ -19,7 +19,7 @@ use heap_table::Closed;
 use mutator_seat::Seat;
 use slack_pace::Pace;
 use std::alloc::Global;
-use std::marker::{Brand, PhantomData};
+use std::marker::Brand;
 use std::sync::{Mutex, Wait};
 use std::thread::Threads;
 
@@ -54,13 +54,7 @@ fn run_jobs<N: HeldName + Send + Sync, G: Gate, R: Threads + Wait + Sync>(
     let queue = &queue;
     push_positions(rt, queue, &mut pass, jobs.len() as u32);
     let workers = equip(alloc, queue, &mut pass, seats)?;
-    let shift = Shift::<N> {
-        queue,
-        jobs,
-        workers,
-        name: PhantomData,
-    };
-    let done = work_all(rt, alloc, held, shift, gate)?;
+    let done = work_all(rt, alloc, held, queue, jobs, workers, gate)?;
     run_rest(rt, alloc, held, queue, jobs, &mut pass, done, gate)
 }
 

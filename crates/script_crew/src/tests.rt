@@ -77,7 +77,15 @@ fn ran_by<G: Gate, R: Threads + Wait + Sync>(
     let (holders, collector) = HeapTable::make::<Log, Log>(alloc, heap)?;
     let seats = seats_of(alloc, holders)?;
     let pace = Box::new(alloc, Steady)?;
-    run_crew(rt, alloc, seats, Collector::make(collector), jobs, pace, gate)
+    run_crew(
+        rt,
+        alloc,
+        seats,
+        Collector::make(collector),
+        jobs,
+        pace,
+        gate,
+    )
 }
 
 /// Whether from the run's `from` up to its `to` the seat's log has the job's commands, each followed by a poll.
@@ -87,7 +95,11 @@ fn tells(ran: &CrewRan, run: &JobRun, job: &Job) -> bool {
     };
     let mut rest = job.commands.iter();
     let mut polls = true;
-    for entry in log.iter().skip(run.from as usize).take((run.to - run.from.min(run.to)) as usize) {
+    for entry in log
+        .iter()
+        .skip(run.from as usize)
+        .take((run.to - run.from.min(run.to)) as usize)
+    {
         if let Entry::Said { command, .. } = *entry {
             polls = !polls;
             if polls != (command == Command::Poll) || !polls && rest.next() != Some(&command) {

@@ -1,6 +1,6 @@
-use Rattle.std.proofs.Common.{◌+◌, ◌∷◌, [], ◌++◌, length, take, refl, sym, subst, arith}
+use Rattle.std.proofs.Common.{◌+◌, ◌∷◌, [], ◌++◌, length, take, get_or, refl, sym, subst, arith}
 use Rattle.std.proofs.lemmas.List.{length-append}
-use Rattle.heap_model.specs.declared.command.Command.TheVariants.{Poll}
+use Rattle.heap_model.specs.declared.command.Command.TheVariants.{New, Poll}
 use Rattle.heap_runs.specs.SeatWork.{GoesOn}
 use Rattle.heap_runs.proofs.CommandsOn.{goes_then}
 use Rattle.script_crew.specs.Runs.{with_polls}
@@ -23,8 +23,9 @@ make_command-requires-in-loop-command-clause-may g c =
     let commands = c.args.commands.now in
     let k = c.loop-command.command-index in
     let made = with_polls (take k commands) in
-    let one = goes_then 1 c.args.seat.now c.loop-command.seat c.make_command.new.seat made (_ ∷ []) c.loop-command.invariant c.in_ok-make_command.ensures in
-    may_make_next c.args.seat.now c.make_command.new.seat (with_polls commands) (made ++ _ ∷ []) Poll c.requires.may one (omega (arith, polls_left commands k c.loop-command-test.true, length-append made (_ ∷ []))) (tt, λ e. cc e)
+    let command = get_or commands k (New 0 0) in
+    let one = goes_then 1 c.args.seat.now c.loop-command.seat c.make_command.new.seat made (command ∷ []) c.loop-command.invariant c.in_ok-make_command.ensures in
+    may_make_next c.args.seat.now c.make_command.new.seat (with_polls commands) (made ++ command ∷ []) Poll c.requires.may one (omega (arith, polls_left commands k c.loop-command-test.true, length-append made (command ∷ []))) (tt, λ e. cc e)
 
 pub loop-command-preserved : goal.loop-command-preserved
 loop-command-preserved g c =

@@ -5,20 +5,20 @@ use Rattle.heap_model.specs.declared.fault.Memory.{Memory}
 use Rattle.script_crew.specs.declared.worker.Worked.{Worked}
 use Rattle.script_crew.specs.Working.{HasWorked}
 use Rattle.script_crew.proofs.Joining.{worker_number}
-use Rattle.script_crew.proofs.shift.fn.work_all.join+arg3.Goals as goal
+use Rattle.script_crew.proofs.shift.work_each.Goals as goal
 
 pub returns : goal.returns
 returns g c =
-    let queue = c.captures.queue.now in
-    let jobs = c.captures.jobs.now in
+    let queue = c.args.queue.now in
+    let jobs = c.args.jobs.now in
     let table = g.N.HeldName.table in
     let heap = g.N.HeldName.heap in
-    let workers = c.captures.workers.items in
+    let workers = c.args.workers.items in
     let done = c.in_ok-done.field-0.items in
     record {
       each_once = sym c.in_ok-done.field-0.ok.0 ∙ c.in_ok-done.ensures.len;
       worked = λ position end at.
-          let few : position < length workers = omega (arith, slice_get_within done position end at, c.in_ok-done.field-0.ok.0, c.in_ok-done.ensures.len, c.captures.workers.ok.0) in
+          let few : position < length workers = omega (arith, slice_get_within done position end at, c.in_ok-done.field-0.ok.0, c.in_ok-done.ensures.len, c.args.workers.ok.0) in
           let gives = (c.in_ok-done.ensures.each position end few).1 in
           let number : gives.job.seat.number ≡ position = worker_number workers _ c.requires.numbered position gives.job few (gives.job_is gives.job) in
           let met : IfOk (get_or done position end) (HasWorked queue jobs table heap gives.job.seat.number) = gives.call.met in
