@@ -13,8 +13,7 @@ use Rattle.heap_model.specs.declared.command.Command.{Command}
 use Rattle.heap_model.specs.declared.fault.Memory.{Memory}
 use Rattle.heap_model.specs.declared.heap.Heap.{Heap}
 use Rattle.heap_table.specs.SeatHeld.{SeatHeld}
-use Rattle.heap_runs.specs.CollectCall.{IsPresent}
-use Rattle.heap_runs.specs.SeatWork.{HasMade, IsOfTable}
+use Rattle.heap_runs.specs.SeatWork.{HasMade}
 use Rattle.crossbeam_queue.specs.declared.array_queue.Doing.{Doing}
 use Rattle.crossbeam_queue.specs.declared.array_queue.Slotted.{Slotted}
 use Rattle.script_crew.specs.declared.gathering.Crew.{Crew}
@@ -23,11 +22,10 @@ use Rattle.script_crew.specs.declared.job.JobRun.{JobRun}
 use Rattle.script_crew.specs.declared.position_rule.Tally.{Tally}
 use Rattle.script_crew.specs.declared.worker.Worked.{Worked}
 use Rattle.script_crew.specs.declared.worker.Worker.{Worker}
-use Rattle.script_crew.specs.Crews.{IsFreshSeat}
 use Rattle.script_crew.specs.Jobs.{HasUsed, calls_at}
 use Rattle.script_crew.specs.Positions.{tally}
 use Rattle.script_crew.specs.Runs.{job_numbers, run_numbers, seat_numbers, EndsBefore, IsRunOn, IsRunAmong, AreWhole}
-use Rattle.script_crew.specs.Working.{positions_of, numbers_at, IsAtWork, HasRun, HaveRun, HasRunAll, HasWorked, HaveWorked, HasFreshPass, IsFresh}
+use Rattle.script_crew.specs.Working.{positions_of, numbers_at, IsAtWork, HasRun, HaveRun, HasWorked, HaveWorked}
 use Rattle.script_crew.proofs.Running.{ends_within, run_stays, stays_of_table}
 use Rattle.script_crew.proofs.SameLists.{in_order, range-push}
 use Rattle.script_crew.proofs.Turns.{AllPairs-append, apart-from_in_turn}

@@ -1,5 +1,5 @@
 -- What a seat has run stays so as its log grows, and one job more is run.
-use Rattle.std.proofs.Common.{◌≡◌, ℕ, ◌+◌, ◌≤◌, List, [], ◌∷◌, ◌++◌, length, get_or, refl, sym, ap, ◌∙◌, subst, append_assoc, append-nil, arith}
+use Rattle.std.proofs.Common.{◌≡◌, ℕ, ◌≤◌, List, [], ◌∷◌, ◌++◌, length, get_or, refl, sym, ap, ◌∙◌, subst, append_assoc, append-nil, arith}
 use Rattle.std.specs.Prelude.{slice_index, sum_by}
 use Rattle.std.proofs.lemmas.List.{length-append, map-append}
 use Rattle.std.proofs.lemmas.List.Elements.{All-weaker, All-push, All-nil, All-get_or}
@@ -17,10 +17,10 @@ use Rattle.heap_runs.proofs.CommandsOn.{goes_then, none_paid}
 use Rattle.script_crew.specs.declared.job.Job.{Job}
 use Rattle.script_crew.specs.declared.job.JobRun.{JobRun}
 use Rattle.script_crew.specs.declared.position_rule.Tally.{Tally}
-use Rattle.script_crew.specs.Jobs.{HasUsed, calls_at, script_of_run}
+use Rattle.script_crew.specs.Jobs.{HasUsed, calls_at}
 use Rattle.script_crew.specs.Positions.{tally, HasPopped}
 use Rattle.script_crew.specs.Runs.{job_numbers, clears, with_polls, EndsBefore, TellsFromTo, IsRunOn, IsRunOf}
-use Rattle.script_crew.specs.Working.{HasRun, IsAtWork}
+use Rattle.script_crew.specs.Working.{HasRun}
 
 -- a log that grows tells what it told
 tells_on : (number : ℕ) (log more : List Entry) (commands : List Command) (from to : ℕ) → TellsFromTo number log commands from to → TellsFromTo number (log ++ more) commands from to

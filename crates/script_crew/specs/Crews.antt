@@ -1,5 +1,5 @@
 -- What a crew is given, and what it has come to once its table is closed.
-use Rattle.std.specs.Prelude.{◌≡◌, ℕ, List, [], All}
+use Rattle.std.specs.Prelude.{◌≡◌, List, All}
 use Rattle.std.specs.List.{range_with_len}
 use Rattle.atomic_table.specs.Seated.{TableId}
 use Rattle.heap_model.specs.declared.heap.Heap.{Heap}

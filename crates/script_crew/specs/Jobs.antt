@@ -1,5 +1,5 @@
 -- Which jobs a crew is given, and how many calls they come to.
-use Rattle.std.specs.Prelude.{◌≡◌, ◌≢◌, ℕ, ◌+◌, ◌≤◌, List, ◌++◌, length, map, slice_index, sum_by, All}
+use Rattle.std.specs.Prelude.{◌≢◌, ℕ, ◌≤◌, List, ◌++◌, length, map, slice_index, sum_by, All}
 use Rattle.heap_model.specs.declared.command.Command.{Command}
 use Rattle.heap_model.specs.declared.command.Command.TheVariants.{Collect}
 use Rattle.heap_runs.specs.SeatWork.{IsOfScript, objects_of, sets_of}

@@ -5,7 +5,7 @@ use Rattle.crossbeam_queue.specs.Passes.{view}
 use Rattle.script_crew.specs.declared.gathering.Crew.{Crew}
 use Rattle.script_crew.specs.declared.position_rule.Tally.{Tally}
 use Rattle.script_crew.specs.Working.{HaveRun}
-use Rattle.script_crew.proofs.Joining.{next_has_worked, none_joined, one_more_joined}
+use Rattle.script_crew.proofs.Joining.{next_has_worked, one_more_joined}
 use Rattle.script_crew.proofs.PassMoves.{keeps-merge}
 use Rattle.script_crew.proofs.gathering.join_all.Goals as goal
 

@@ -1,4 +1,4 @@
-use Rattle.std.proofs.Common.{◌+◌, ◌∷◌, [], ◌++◌, length, take, get_or, refl, sym, subst, arith}
+use Rattle.std.proofs.Common.{◌∷◌, [], ◌++◌, take, get_or, refl, sym, subst, arith}
 use Rattle.std.proofs.lemmas.List.{length-append}
 use Rattle.heap_model.specs.declared.command.Command.TheVariants.{New, Poll}
 use Rattle.heap_runs.specs.SeatWork.{GoesOn}

@@ -1,4 +1,4 @@
-use Rattle.std.proofs.Common.{◌≡◌, ◌++◌, length}
+use Rattle.std.proofs.Common.{◌≡◌, ◌++◌}
 use Rattle.std.specs.Vec.Iter.{into_iter_items}
 use Rattle.script_crew.specs.Leaving.{HaveLeft}
 use Rattle.script_crew.proofs.leaving.leave_all.Given as goal

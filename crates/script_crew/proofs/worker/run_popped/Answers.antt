@@ -1,6 +1,5 @@
 use Rattle.std.proofs.Common.{◌<◌, length, sym, ap, subst, ◌∙◌, arith}
 use Rattle.crossbeam_queue.specs.Passes.{view}
-use Rattle.heap_runs.specs.SeatWork.{IsOfTable}
 use Rattle.script_crew.specs.declared.position_rule.Tally.{Tally}
 use Rattle.script_crew.specs.Runs.{IsRunOn}
 use Rattle.script_crew.specs.Working.{HasRun}
