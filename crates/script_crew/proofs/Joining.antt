@@ -31,7 +31,7 @@ use Rattle.script_crew.proofs.SameLists.{in_order, range-push}
 use Rattle.script_crew.proofs.Turns.{AllPairs-append, apart-from_in_turn}
 
 -- where seats are numbered by their positions, the seat at a position has its number
-number_is_position : (seats : List SeatHeld) (n : ℕ) → seat_numbers seats ≡ range_with_len 0 n → (k : ℕ) (seat : SeatHeld) → k < length seats → get_or seats k seat ≡ seat → (seat.number ≡ k) × (k < n)
+pub number_is_position : (seats : List SeatHeld) (n : ℕ) → seat_numbers seats ≡ range_with_len 0 n → (k : ℕ) (seat : SeatHeld) → k < length seats → get_or seats k seat ≡ seat → (seat.number ≡ k) × (k < n)
 number_is_position seats n numbered k seat few here =
     let number : SeatHeld → ℕ = λ one. one.number in
     let below : k < n = omega (arith, few, ap (λ xs. length xs) numbered, length-map seats number, length-range_with_len 0 n) in (

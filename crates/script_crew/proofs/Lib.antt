@@ -7,3 +7,4 @@ pub mod Joining
 pub mod Calls
 pub mod WholeCrew
 pub mod LeftSeats
+pub mod OpenedCrew
