@@ -1,52 +1,62 @@
-ghost use Rattle.std.specs.Prelude.{◌≡◌, ◌<◌, IfOk, OnOk};
-ghost use Rattle.crossbeam_queue.specs.Fifo.{Held};
+ghost use Rattle.std.specs.Prelude.{◌≡◌, ◌<◌, ◌≤◌, length, All, IfOk, OnOk};
+ghost use Rattle.crossbeam_queue.specs.Fifo.{Held as HeldItems};
 ghost use Rattle.crossbeam_queue.specs.Passes.{view, IsPassOf};
+ghost use Rattle.script_crew.specs.Jobs.{IsJob, command_count};
 ghost use Rattle.script_crew.specs.Positions.{Settles};
-ghost use Rattle.script_crew.specs.Working.{positions_of, HasRun, IsFresh, HasWorked};
+ghost use Rattle.script_crew.specs.Working.{positions_of, IsAtWork, HasRun, IsFresh, HasWorked};
 
 use crate::job::{Job, JobRun};
 use crate::job_run::run_job;
-use crate::noted_seat::NotedSeat;
 use crate::position_rule::{Popping, PositionPass, PositionQueue};
-use heap_model::Memory;
+use heap_model::{Gate, Memory};
+use heap_runs::{Held, HeldName};
+use mutator_seat::Seat;
 use std::alloc::Global;
-use std::sync::Wait;
+use std::sync::{Mutex, Wait};
 
 /// A seat and a pass of the queue: what a worker takes along and hands back.
 #[derive(Drop)]
 pub struct Worker {
-    pub seat: NotedSeat,
+    pub seat: Seat,
     pub pass: PositionPass,
 }
 
-/// What a worker hands back: itself, and its runs in the order in which it made them.
+/// What a worker hands back: itself, its runs in the order in which it made them, and how many commands of jobs its seat has begun.
 #[derive(Drop)]
 pub struct Worked {
     pub worker: Worker,
     pub runs: Vec<JobRun>,
+    pub begun: u32,
 }
 
 /// Runs on the seat each job whose position the pass pops, until the queue answers that it is empty.
-pub fn run_popped<R: Wait>(
+pub fn run_popped<N: HeldName, G: Gate, R: Wait>(
     rt: &R,
     alloc: Global,
+    held: &Mutex<Held<N>>,
     queue: &PositionQueue,
     jobs: &[Job],
     pass: &mut PositionPass,
-    seat: &mut NotedSeat,
+    seat: &mut Seat,
+    gate: &G,
+    begun: &mut u32,
 ) -> Result<Vec<JobRun>, Memory>
     requires queue { IsPassOf queue.now pass.old }
     requires shares { 0 < (view pass.old).shares }
     requires known { (view pass.old).known ≡ positions_of jobs.now }
+    requires count { length jobs.now ≤ 4096 }
+    requires commands { command_count jobs.now ≤ 1048576 }
+    requires jobs { All IsJob jobs.now }
+    requires seat { IsAtWork jobs.now N.table N.heap (view pass.old).popped seat.old }
     ensures queue { IsPassOf queue.now pass.new }
     ensures ran { IfOk result (λ runs. HasRun jobs.now (view pass.old) (view pass.new) seat.old seat.new runs.items) }
-    ensures empty { OnOk result (Held 0 (Settles (view pass.new))) }
+    ensures empty { OnOk result (HeldItems 0 (Settles (view pass.new))) }
 {
     let mut runs = Vec::new(alloc);
     for _ in rt.forever() {
         match queue.pop_as::<Popping, R>(rt, pass) {
             Some(position) => {
-                let run = run_job(seat, &jobs[position as usize])?;
+                let run = run_job(rt, held, seat, &jobs[position as usize], gate, begun)?;
                 runs.push(run)?;
             }
             None => return Ok(runs),
@@ -56,16 +66,57 @@ pub fn run_popped<R: Wait>(
 }
 
 /// Runs each job whose position the worker pops, until the queue is empty.
-pub fn work<R: Wait>(
+fn run_all<N: HeldName, G: Gate, R: Wait>(
     rt: &R,
     alloc: Global,
+    held: &Mutex<Held<N>>,
     queue: &PositionQueue,
     jobs: &[Job],
     mut worker: Worker,
+    gate: &G,
 ) -> Result<Worked, Memory>
-    requires { IsFresh queue.now (positions_of jobs.now) worker }
-    ensures { IfOk result (HasWorked queue.now jobs.now worker.seat.number) }
+    requires count { length jobs.now ≤ 4096 }
+    requires commands { command_count jobs.now ≤ 1048576 }
+    requires jobs { All IsJob jobs.now }
+    requires fresh { IsFresh queue.now jobs.now N.table N.heap worker }
+    ensures { IfOk result (HasWorked queue.now jobs.now N.table N.heap worker.seat.number) }
 {
-    let runs = run_popped(rt, alloc, queue, jobs, &mut worker.pass, &mut worker.seat)?;
-    Ok(Worked { worker, runs })
+    let mut begun = 0;
+    let runs = run_popped(
+        rt,
+        alloc,
+        held,
+        queue,
+        jobs,
+        &mut worker.pass,
+        &mut worker.seat,
+        gate,
+        &mut begun,
+    )?;
+    Ok(Worked {
+        worker,
+        runs,
+        begun,
+    })
+}
+
+/// Does the work of the worker, and tells under the lock that it has ended, also where memory is wanting.
+pub fn work<N: HeldName, G: Gate, R: Wait>(
+    rt: &R,
+    alloc: Global,
+    held: &Mutex<Held<N>>,
+    queue: &PositionQueue,
+    jobs: &[Job],
+    worker: Worker,
+    gate: &G,
+) -> Result<Worked, Memory>
+    requires count { length jobs.now ≤ 4096 }
+    requires commands { command_count jobs.now ≤ 1048576 }
+    requires jobs { All IsJob jobs.now }
+    requires fresh { IsFresh queue.now jobs.now N.table N.heap worker }
+    ensures { IfOk result (HasWorked queue.now jobs.now N.table N.heap worker.seat.number) }
+{
+    let worked = run_all(rt, alloc, held, queue, jobs, worker, gate);
+    held.lock(rt).end_one();
+    worked
 }
