@@ -18,7 +18,7 @@ use Rattle.heap_runs.specs.CollectCall.{IsPresent}
 use Rattle.heap_runs.specs.SeatWork.{GoesOn, IsOfScript, MayMakeNext, MayWork, objects_of, sets_of}
 use Rattle.script_crew.specs.declared.job.Job.{Job}
 use Rattle.script_crew.specs.declared.position_rule.Tally.{Tally}
-use Rattle.script_crew.specs.Jobs.{IsJob, IsOfJob, HasUsed, calls_at, command_count, script_of_run}
+use Rattle.script_crew.specs.Jobs.{AreJobs, IsJob, IsOfJob, HasUsed, calls_at, command_count, script_of_run}
 use Rattle.script_crew.specs.Positions.{HasPopped}
 use Rattle.script_crew.specs.Runs.{clears, with_polls}
 use Rattle.script_crew.specs.Working.{positions_of}
@@ -118,11 +118,11 @@ pub calls_at_position : (jobs : List Job) (position : ℕ) (job : Job) → posit
 calls_at_position jobs position job within is = ap calls_of is ∙ sym (get_or-map calls_of jobs position job 0 within)
 
 -- a seat that has used no more than runs at the popped positions may run the job whose position is popped next
-pub may_run : (jobs : List Job) (old new : Tally) (position : ℕ) (job : Job) (seat : SeatHeld) → length jobs ≤ 4096 → command_count jobs ≤ 1048576 → All IsJob jobs → old.known ≡ positions_of jobs → HasPopped old position new
+pub may_run : (jobs : List Job) (old new : Tally) (position : ℕ) (job : Job) (seat : SeatHeld) → AreJobs jobs → old.known ≡ positions_of jobs → HasPopped old position new
     → position < length jobs → job ≡ get_or jobs position job → HasUsed jobs old.popped seat → IsPresent seat → MayWork seat (script_of_run job)
-may_run jobs old new position job seat count few each known popped within is used present = record {
+may_run jobs old new position job seat fit known popped within is used present = record {
   present = present;
-  each = All-append IsOfScript clears (with_polls job.commands.items) clears_of_script (polls_of_script job.commands.items (subst IsJob (sym is) (All-get_or IsJob jobs position job within each)));
+  each = All-append IsOfScript clears (with_polls job.commands.items) clears_of_script (polls_of_script job.commands.items (subst IsJob (sym is) (All-get_or IsJob jobs position job within fit.each)));
   names = omega (arith, used.objects, enough);
   stamps = omega (arith, used.sets, enough);
 }
@@ -135,7 +135,7 @@ may_run jobs old new position job seat count few each known popped within is use
       ap (λ (one : Tally). sum_by (calls_at jobs) one.popped) popped.one_more,
       sum_by_push (calls_at jobs) old.popped position,
       ap (sum_by (calls_at jobs)) known,
-      few_calls jobs count few,
+      few_calls jobs fit.count fit.commands,
     )
 
 -- what is so of clearing and of what stands behind it is so of that

@@ -1,9 +1,8 @@
 ghost use Rattle.std.specs.Prelude.{◌≡◌, ◌<◌, ◌≤◌, length, vec_len, All, IfOk};
 ghost use Rattle.std.specs.List.{range_with_len};
-ghost use Rattle.std.specs.List.Sorted.{IsStrictlyIncreasing};
 ghost use Rattle.script_crew.specs.Crews.{IsFreshSeat, IsCrew, IsCrewRan};
-ghost use Rattle.script_crew.specs.Jobs.{IsJob, command_count};
-ghost use Rattle.script_crew.specs.Runs.{job_numbers, seat_numbers};
+ghost use Rattle.script_crew.specs.Jobs.{AreJobs};
+ghost use Rattle.script_crew.specs.Runs.{seat_numbers};
 ghost use Rattle.script_crew.specs.Working.{HasRunAll};
 
 use crate::filling::{equip, push_positions};
@@ -12,6 +11,7 @@ use crate::job::{Job, JobRun};
 use crate::leaving::leave_all;
 use crate::position_rule::PositionQueue;
 use crate::shift::work_all;
+use crate::site::Site;
 use collector_turns::Collector;
 use heap_model::{Gate, Memory};
 use heap_runs::{Held, HeldName, finish};
@@ -40,10 +40,7 @@ fn run_jobs<N: HeldName + Send + Sync, G: Gate, R: Threads + Wait + Sync>(
     gate: &G,
 ) -> Result<Crew, Memory>
     requires some { 0 < length jobs.now }
-    requires count { length jobs.now ≤ 4096 }
-    requires commands { command_count jobs.now ≤ 1048576 }
-    requires jobs { All IsJob jobs.now }
-    requires rising { IsStrictlyIncreasing (job_numbers jobs.now) }
+    requires jobs { AreJobs jobs.now }
     requires seat { 0 < vec_len seats }
     requires seats { vec_len seats ≤ 16 }
     requires numbered { seat_numbers seats.items ≡ range_with_len 0 (vec_len seats) }
@@ -54,8 +51,14 @@ fn run_jobs<N: HeldName + Send + Sync, G: Gate, R: Threads + Wait + Sync>(
     let queue = &queue;
     push_positions(rt, queue, &mut pass, jobs.len() as u32);
     let workers = equip(alloc, queue, &mut pass, seats)?;
-    let done = work_all(rt, alloc, held, queue, jobs, workers, gate)?;
-    run_rest(rt, alloc, held, queue, jobs, &mut pass, done, gate)
+    let site = Site {
+        alloc,
+        queue,
+        jobs,
+        gate,
+    };
+    let done = work_all(rt, held, &site, workers)?;
+    run_rest(rt, held, &site, &mut pass, done)
 }
 
 /// A crew whose table and collector its name tells.
@@ -73,10 +76,7 @@ fn run_named<N: HeldName + Send + Sync, G: Gate, R: Threads + Wait + Sync>(
     requires before { collector.holder.known.collector.log ≡ N.before }
     requires crew { IsCrew seats.items collector }
     requires some { 0 < length jobs.now }
-    requires count { length jobs.now ≤ 4096 }
-    requires commands { command_count jobs.now ≤ 1048576 }
-    requires jobs { All IsJob jobs.now }
-    requires rising { IsStrictlyIncreasing (job_numbers jobs.now) }
+    requires jobs { AreJobs jobs.now }
     ensures { IfOk result (IsCrewRan jobs.now collector) }
 {
     // What is true of every collector's heap is known from here on.
@@ -104,10 +104,7 @@ pub fn run_crew<G: Gate, R: Threads + Wait + Sync>(
 ) -> Result<CrewRan, Memory>
     requires crew { IsCrew seats.items collector }
     requires some { 0 < length jobs.now }
-    requires count { length jobs.now ≤ 4096 }
-    requires commands { command_count jobs.now ≤ 1048576 }
-    requires jobs { All IsJob jobs.now }
-    requires rising { IsStrictlyIncreasing (job_numbers jobs.now) }
+    requires jobs { AreJobs jobs.now }
     ensures { IfOk result (IsCrewRan jobs.now collector) }
 {
     run_named::<Brand, G, R>(rt, alloc, seats, collector, jobs, pace, gate)

@@ -9,6 +9,7 @@ mod job_run;
 mod leaving;
 mod position_rule;
 mod shift;
+mod site;
 #[cfg(test)]
 mod tests;
 mod worker;

@@ -1,16 +1,15 @@
-ghost use Rattle.std.specs.Prelude.{◌≡◌, ◌≤◌, length, map, vec_len, All, IfOk};
+ghost use Rattle.std.specs.Prelude.{◌≡◌, map, vec_len, All, IfOk};
 ghost use Rattle.std.specs.List.{range_with_len};
-ghost use Rattle.script_crew.specs.Jobs.{IsJob, command_count};
+ghost use Rattle.script_crew.specs.Jobs.{AreJobs};
+ghost use Rattle.script_crew.specs.declared.shift.Task.TheVariants.{Jobs};
 ghost use Rattle.script_crew.specs.Tasks.{EndsTask, IsTask};
 ghost use Rattle.script_crew.specs.Working.{IsFresh, HasWorked, HaveEnded};
 
-use crate::job::Job;
-use crate::position_rule::PositionQueue;
+use crate::site::Site;
 use crate::worker::{Worked, Worker, work};
 use heap_model::{Gate, Memory};
 use heap_record::{SlackWork, work_slack};
 use heap_runs::{Held, HeldName};
-use std::alloc::Global;
 use std::sync::{Mutex, Wait};
 use std::thread::{Threads, map_vec};
 
@@ -24,30 +23,23 @@ pub enum Task {
 /// Lets each worker run jobs in a thread of its own, and tells under the lock that all of them have ended. Where a thread can't be had the caller does its work.
 fn work_each<N: HeldName + Send + Sync, G: Gate, R: Threads + Wait + Sync>(
     rt: &R,
-    alloc: Global,
     held: &Mutex<Held<N>>,
-    queue: &PositionQueue,
-    jobs: &[Job],
+    site: &Site<G>,
     workers: Vec<Worker>,
-    gate: &G,
 ) -> Result<Vec<Result<Worked, Memory>>, Memory>
-    requires count { length jobs.now ≤ 4096 }
-    requires commands { command_count jobs.now ≤ 1048576 }
-    requires jobs { All IsJob jobs.now }
-    requires fresh { All (IsFresh queue.now jobs.now N.table N.heap) workers.items }
+    requires jobs { AreJobs site.now.jobs.now }
+    requires fresh { All (IsFresh site.now.queue.now site.now.jobs.now N.table N.heap) workers.items }
     requires numbered { map (λ worker. worker.seat.number) workers.items ≡ range_with_len 0 (vec_len workers) }
-    ensures { IfOk result (λ done. HaveEnded queue.now jobs.now N.table N.heap (vec_len workers) done.items) }
+    ensures { IfOk result (λ done. HaveEnded site.now.queue.now site.now.jobs.now N.table N.heap (vec_len workers) done.items) }
 {
     let done = map_vec(
         rt,
         workers,
         &|worker: Worker| -> Result<Worked, Memory>
-            requires count { length jobs.now ≤ 4096 }
-            requires commands { command_count jobs.now ≤ 1048576 }
-            requires jobs { All IsJob jobs.now }
-            requires fresh { IsFresh queue.now jobs.now N.table N.heap worker }
-            ensures { IfOk result (HasWorked queue.entry.now jobs.entry.now N.table N.heap worker.seat.number) }
-        { work(rt, alloc, held, queue, jobs, worker, gate) },
+            requires jobs { AreJobs site.now.jobs.now }
+            requires fresh { IsFresh site.now.queue.now site.now.jobs.now N.table N.heap worker }
+            ensures { IfOk result (HasWorked site.entry.now.queue.now site.entry.now.jobs.now N.table N.heap worker.seat.number) }
+        { work(rt, held, site, worker) },
     );
     held.lock(rt).end();
     Ok(done?)
@@ -56,24 +48,19 @@ fn work_each<N: HeldName + Send + Sync, G: Gate, R: Threads + Wait + Sync>(
 /// Does the task: of slack turns, until it is told under the lock that the workers have ended.
 fn do_task<N: HeldName + Send + Sync, G: Gate, R: Threads + Wait + Sync>(
     rt: &R,
-    alloc: Global,
     held: &Mutex<Held<N>>,
-    queue: &PositionQueue,
-    jobs: &[Job],
+    site: &Site<G>,
     task: Task,
-    gate: &G,
 ) -> Result<Vec<Result<Worked, Memory>>, Memory>
-    requires count { length jobs.now ≤ 4096 }
-    requires commands { command_count jobs.now ≤ 1048576 }
-    requires jobs { All IsJob jobs.now }
-    requires task { IsTask queue.now jobs.now N.table N.heap task }
-    ensures { IfOk result (λ done. EndsTask queue.now jobs.now N.table N.heap task done.items) }
+    requires jobs { AreJobs site.now.jobs.now }
+    requires task { IsTask site.now.queue.now site.now.jobs.now N.table N.heap task }
+    ensures { IfOk result (λ done. EndsTask site.now.queue.now site.now.jobs.now N.table N.heap task done.items) }
 {
     match task {
-        Task::Jobs(workers) => work_each(rt, alloc, held, queue, jobs, workers, gate),
+        Task::Jobs(workers) => work_each(rt, held, site, workers),
         Task::Slack => {
             work_slack(rt, held, &mut ())?;
-            Ok(Vec::new(alloc))
+            Ok(Vec::new(site.alloc))
         }
     }
 }
@@ -82,33 +69,25 @@ fn do_task<N: HeldName + Send + Sync, G: Gate, R: Threads + Wait + Sync>(
 /// turns are the last task: where no thread can be had the caller comes to them once the workers have ended.
 pub fn work_all<N: HeldName + Send + Sync, G: Gate, R: Threads + Wait + Sync>(
     rt: &R,
-    alloc: Global,
     held: &Mutex<Held<N>>,
-    queue: &PositionQueue,
-    jobs: &[Job],
+    site: &Site<G>,
     workers: Vec<Worker>,
-    gate: &G,
 ) -> Result<Vec<Result<Worked, Memory>>, Memory>
-    requires count { length jobs.now ≤ 4096 }
-    requires commands { command_count jobs.now ≤ 1048576 }
-    requires jobs { All IsJob jobs.now }
-    requires fresh { All (IsFresh queue.now jobs.now N.table N.heap) workers.items }
-    requires numbered { map (λ worker. worker.seat.number) workers.items ≡ range_with_len 0 (vec_len workers) }
-    ensures { IfOk result (λ done. HaveEnded queue.now jobs.now N.table N.heap (vec_len workers) done.items) }
+    requires jobs { AreJobs site.now.jobs.now }
+    requires task { IsTask site.now.queue.now site.now.jobs.now N.table N.heap (Jobs workers) }
+    ensures { IfOk result (λ done. HaveEnded site.now.queue.now site.now.jobs.now N.table N.heap (vec_len workers) done.items) }
 {
-    let mut tasks = Vec::new(alloc);
+    let mut tasks = Vec::new(site.alloc);
     tasks.push(Task::Jobs(workers))?;
     tasks.push(Task::Slack)?;
     let mut both = map_vec(
         rt,
         tasks,
         &|task: Task| -> Result<Vec<Result<Worked, Memory>>, Memory>
-            requires count { length jobs.now ≤ 4096 }
-            requires commands { command_count jobs.now ≤ 1048576 }
-            requires jobs { All IsJob jobs.now }
-            requires task { IsTask queue.now jobs.now N.table N.heap task }
-            ensures { IfOk result (λ done. EndsTask queue.entry.now jobs.entry.now N.table N.heap task done.items) }
-        { do_task(rt, alloc, held, queue, jobs, task, gate) },
+            requires jobs { AreJobs site.now.jobs.now }
+            requires task { IsTask site.now.queue.now site.now.jobs.now N.table N.heap task }
+            ensures { IfOk result (λ done. EndsTask site.entry.now.queue.now site.entry.now.jobs.now N.table N.heap task done.items) }
+        { do_task(rt, held, site, task) },
     )?;
     if let Some(slack) = both.pop() {
         slack?;

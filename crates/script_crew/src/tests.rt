@@ -69,10 +69,7 @@ fn ran_by<G: Gate, R: Threads + Wait + Sync>(
 ) -> Result<CrewRan, Memory>
     requires heap { IsHeap heap }
     requires some { 0 < length jobs.now }
-    requires count { length jobs.now ≤ 4096 }
-    requires commands { command_count jobs.now ≤ 128 }
-    requires jobs { All IsJob jobs.now }
-    requires rising { IsStrictlyIncreasing (job_numbers jobs.now) }
+    requires jobs { AreJobs jobs.now }
 {
     let (holders, collector) = HeapTable::make::<Log, Log>(alloc, heap)?;
     let seats = seats_of(alloc, holders)?;

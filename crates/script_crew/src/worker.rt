@@ -1,17 +1,17 @@
-ghost use Rattle.std.specs.Prelude.{◌≡◌, ◌<◌, ◌≤◌, length, All, IfOk, OnOk};
+ghost use Rattle.std.specs.Prelude.{◌≡◌, ◌<◌, IfOk, OnOk};
 ghost use Rattle.crossbeam_queue.specs.Fifo.{Held as HeldItems};
 ghost use Rattle.crossbeam_queue.specs.Passes.{view, IsPassOf};
-ghost use Rattle.script_crew.specs.Jobs.{IsJob, command_count};
+ghost use Rattle.script_crew.specs.Jobs.{AreJobs};
 ghost use Rattle.script_crew.specs.Positions.{Settles};
 ghost use Rattle.script_crew.specs.Working.{positions_of, IsAtWork, HasRun, IsFresh, HasWorked};
 
-use crate::job::{Job, JobRun};
+use crate::job::JobRun;
 use crate::job_run::run_job;
-use crate::position_rule::{Popping, PositionPass, PositionQueue};
+use crate::position_rule::{Popping, PositionPass};
+use crate::site::Site;
 use heap_model::{Gate, Memory};
 use heap_runs::{Held, HeldName};
 use mutator_seat::Seat;
-use std::alloc::Global;
 use std::sync::{Mutex, Wait};
 
 /// A seat and a pass of the queue: what a worker takes along and hands back.
@@ -32,31 +32,27 @@ pub struct Worked {
 /// Runs on the seat each job whose position the pass pops, until the queue answers that it is empty.
 pub fn run_popped<N: HeldName, G: Gate, R: Wait>(
     rt: &R,
-    alloc: Global,
     held: &Mutex<Held<N>>,
-    queue: &PositionQueue,
-    jobs: &[Job],
+    site: &Site<G>,
     pass: &mut PositionPass,
     seat: &mut Seat,
-    gate: &G,
     begun: &mut u32,
 ) -> Result<Vec<JobRun>, Memory>
-    requires queue { IsPassOf queue.now pass.old }
+    requires queue { IsPassOf site.now.queue.now pass.old }
     requires shares { 0 < (view pass.old).shares }
-    requires known { (view pass.old).known ≡ positions_of jobs.now }
-    requires count { length jobs.now ≤ 4096 }
-    requires commands { command_count jobs.now ≤ 1048576 }
-    requires jobs { All IsJob jobs.now }
-    requires seat { IsAtWork jobs.now N.table N.heap (view pass.old).popped seat.old }
-    ensures queue { IsPassOf queue.now pass.new }
-    ensures ran { IfOk result (λ runs. HasRun jobs.now (view pass.old) (view pass.new) seat.old seat.new runs.items) }
+    requires known { (view pass.old).known ≡ positions_of site.now.jobs.now }
+    requires jobs { AreJobs site.now.jobs.now }
+    requires seat { IsAtWork site.now.jobs.now N.table N.heap (view pass.old).popped seat.old }
+    ensures queue { IsPassOf site.now.queue.now pass.new }
+    ensures ran { IfOk result (λ runs. HasRun site.now.jobs.now (view pass.old) (view pass.new) seat.old seat.new runs.items) }
     ensures empty { OnOk result (HeldItems 0 (Settles (view pass.new))) }
 {
-    let mut runs = Vec::new(alloc);
+    let mut runs = Vec::new(site.alloc);
     for _ in rt.forever() {
-        match queue.pop_as::<Popping, R>(rt, pass) {
+        match site.queue.pop_as::<Popping, R>(rt, pass) {
             Some(position) => {
-                let run = run_job(rt, held, seat, &jobs[position as usize], gate, begun)?;
+                let job = &site.jobs[position as usize];
+                let run = run_job(rt, held, seat, job, site.gate, begun)?;
                 runs.push(run)?;
             }
             None => return Ok(runs),
@@ -68,31 +64,16 @@ pub fn run_popped<N: HeldName, G: Gate, R: Wait>(
 /// Runs each job whose position the worker pops, until the queue is empty.
 fn run_all<N: HeldName, G: Gate, R: Wait>(
     rt: &R,
-    alloc: Global,
     held: &Mutex<Held<N>>,
-    queue: &PositionQueue,
-    jobs: &[Job],
+    site: &Site<G>,
     mut worker: Worker,
-    gate: &G,
 ) -> Result<Worked, Memory>
-    requires count { length jobs.now ≤ 4096 }
-    requires commands { command_count jobs.now ≤ 1048576 }
-    requires jobs { All IsJob jobs.now }
-    requires fresh { IsFresh queue.now jobs.now N.table N.heap worker }
-    ensures { IfOk result (HasWorked queue.now jobs.now N.table N.heap worker.seat.number) }
+    requires jobs { AreJobs site.now.jobs.now }
+    requires fresh { IsFresh site.now.queue.now site.now.jobs.now N.table N.heap worker }
+    ensures { IfOk result (HasWorked site.now.queue.now site.now.jobs.now N.table N.heap worker.seat.number) }
 {
     let mut begun = 0;
-    let runs = run_popped(
-        rt,
-        alloc,
-        held,
-        queue,
-        jobs,
-        &mut worker.pass,
-        &mut worker.seat,
-        gate,
-        &mut begun,
-    )?;
+    let runs = run_popped(rt, held, site, &mut worker.pass, &mut worker.seat, &mut begun)?;
     Ok(Worked {
         worker,
         runs,
@@ -103,20 +84,15 @@ fn run_all<N: HeldName, G: Gate, R: Wait>(
 /// Does the work of the worker, and tells under the lock that it has ended, also where memory is wanting.
 pub fn work<N: HeldName, G: Gate, R: Wait>(
     rt: &R,
-    alloc: Global,
     held: &Mutex<Held<N>>,
-    queue: &PositionQueue,
-    jobs: &[Job],
+    site: &Site<G>,
     worker: Worker,
-    gate: &G,
 ) -> Result<Worked, Memory>
-    requires count { length jobs.now ≤ 4096 }
-    requires commands { command_count jobs.now ≤ 1048576 }
-    requires jobs { All IsJob jobs.now }
-    requires fresh { IsFresh queue.now jobs.now N.table N.heap worker }
-    ensures { IfOk result (HasWorked queue.now jobs.now N.table N.heap worker.seat.number) }
+    requires jobs { AreJobs site.now.jobs.now }
+    requires fresh { IsFresh site.now.queue.now site.now.jobs.now N.table N.heap worker }
+    ensures { IfOk result (HasWorked site.now.queue.now site.now.jobs.now N.table N.heap worker.seat.number) }
 {
-    let worked = run_all(rt, alloc, held, queue, jobs, worker, gate);
+    let worked = run_all(rt, held, site, worker);
     held.lock(rt).end_one();
     worked
 }

@@ -6,4 +6,4 @@ use Rattle.script_crew.proofs.gathering.join_all.Given as goal
 
 abbrev pub invariant-loop-one : goal.invariant-loop-one
 invariant-loop-one g l =
-    IsPassOf l.queue l.pass × HaveRun l.jobs g.N.HeldName.table g.N.HeldName.heap (view l.fn.pass) (length l.yielded) (view l.pass) l.crew × (l.yielded ++ into_iter_items l.one-iterator ≡ l.fn.done.items)
+    IsPassOf l.site.queue.now l.pass × HaveRun l.site.jobs.now g.N.HeldName.table g.N.HeldName.heap (view l.fn.pass) (length l.yielded) (view l.pass) l.crew × (l.yielded ++ into_iter_items l.one-iterator ≡ l.fn.done.items)

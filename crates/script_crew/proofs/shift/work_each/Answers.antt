@@ -9,8 +9,8 @@ use Rattle.script_crew.proofs.shift.work_each.Goals as goal
 
 pub returns : goal.returns
 returns g c =
-    let queue = c.args.queue.now in
-    let jobs = c.args.jobs.now in
+    let queue = c.args.site.now.queue.now in
+    let jobs = c.args.site.now.jobs.now in
     let table = g.N.HeldName.table in
     let heap = g.N.HeldName.heap in
     let workers = c.args.workers.items in

@@ -14,27 +14,27 @@ pop_as-requires-clause-rule g c = (keeps-pop _ _ (omega (arith, ap (λ (one : Ta
 
 pub bounds-jobs-position : goal.bounds-jobs-position
 bounds-jobs-position g c =
-    position_has_job c.args.jobs.now (view c.loop.pass) (view c.pop_as.new.pass) c.in-Some-pop_as.position (ap (λ (one : Tally). one.known) c.loop.invariant.1.popped ∙ c.requires.known) c.in-Some-pop_as.ensures.rule
+    position_has_job c.args.site.now.jobs.now (view c.loop.pass) (view c.pop_as.new.pass) c.in-Some-pop_as.position (ap (λ (one : Tally). one.known) c.loop.invariant.1.popped ∙ c.requires.known) c.in-Some-pop_as.ensures.rule
 
 pub run_job-requires-clause-table : goal.run_job-requires-clause-table
 run_job-requires-clause-table g c κs within = stays_of_table g.N.HeldName.table g.N.HeldName.heap c.args.seat.now c.loop.seat c.loop.invariant.1.commands c.requires.seat.of_table c.loop.invariant.1.goes_on
 
 pub run_job-requires-clause-may : goal.run_job-requires-clause-may
 run_job-requires-clause-may g c κs within =
-    let jobs = c.args.jobs.now in
+    let jobs = c.args.site.now.jobs.now in
     let had = c.loop.invariant.1 in
     let position = c.in-Some-pop_as.position in
     let known = ap (λ (one : Tally). one.known) had.popped ∙ c.requires.known in
     let few : position < length jobs = position_has_job jobs (view c.loop.pass) (view c.pop_as.new.pass) position known c.in-Some-pop_as.ensures.rule in
-    may_run jobs (view c.loop.pass) (view c.pop_as.new.pass) position c.index-jobs-position.result c.loop.seat c.requires.count c.requires.commands c.requires.jobs known c.in-Some-pop_as.ensures.rule few
+    may_run jobs (view c.loop.pass) (view c.pop_as.new.pass) position c.index-jobs-position.result c.loop.seat c.requires.jobs known c.in-Some-pop_as.ensures.rule few
     c.index-jobs-position.is (has_used jobs (view c.args.pass.now) (view c.loop.pass) c.args.seat.now c.loop.seat c.loop.runs.items had c.requires.seat.used) had.goes_on.present
 
 pub loop-init : goal.loop-init
-loop-init g c = (c.requires.queue, none_run c.args.jobs.now (view c.args.pass.now) c.args.seat.now _ c.requires.seat.present c.new-runs.ensures.items)
+loop-init g c = (c.requires.queue, none_run c.args.site.now.jobs.now (view c.args.pass.now) c.args.seat.now _ c.requires.seat.present c.new-runs.ensures.items)
 
 pub loop-preserved : goal.loop-preserved
 loop-preserved g c =
-    let jobs = c.args.jobs.now in
+    let jobs = c.args.site.now.jobs.now in
     let had = c.loop.invariant.1 in
     let position = c.in-Some-pop_as.position in
     let job = c.index-jobs-position.result in
