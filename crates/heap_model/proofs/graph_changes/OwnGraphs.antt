@@ -89,11 +89,11 @@ agree_on_other_set number other g r i v apart =
 
 -- a reply to another seat changes nothing of this one
 agree_others : (number other : ℕ) (g : Graph) (command : Command) (reply : Reply) → number ≢ other → AgreeOn number g (after_reply g other command reply)
+agree_others number other g (commands.Cas r i a v) (replies.Was stamp) apart = agree_on_other_set number other g r i v apart
 agree_others number other g (commands.New d fields) (replies.Made id) apart = agree_on_with_other_seat number other g _ apart
 agree_others number other g (commands.Array d cells) (replies.Made id) apart = agree_on_with_other_seat number other g _ apart
 agree_others number other g (commands.Get d r i) (replies.Got value stamp) apart = agree_on_with_other_seat number other g _ apart
 agree_others number other g (commands.Set r i v) (replies.Was stamp) apart = agree_on_other_set number other g r i v apart
-agree_others number other g (commands.Cas r i a v) (replies.Was stamp) apart = agree_on_other_set number other g r i v apart
 agree_others number other g (commands.Num d n) reply apart = agree_on_with_other_seat number other g _ apart
 agree_others number other g (commands.Nil d) reply apart = agree_on_with_other_seat number other g _ apart
 agree_others number other g (commands.Copy d r) reply apart = agree_on_with_other_seat number other g _ apart

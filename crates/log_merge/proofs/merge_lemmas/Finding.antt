@@ -102,7 +102,10 @@ changed_place_is_written g number (commands.Get d r i) (replies.Got value stamp)
 changed_place_is_written g number _ reply id is = absurd cc
 
 -- it is set, or not
-here_or_not : (one other : Value) (i j stamp : ℕ) → ((t : ℕ) × (one ≡ other) × (i ≡ j) × (stamp ≡ t)) ⊎ ((t : ℕ) → ((one ≡ other) × (i ≡ j) × (stamp ≡ t)) → ⊥)
+abbrev IsHere : Value → Value → ℕ → ℕ → ℕ → ℕ → Type 0
+IsHere one other i j stamp t = (one ≡ other) × (i ≡ j) × (stamp ≡ t)
+
+here_or_not : (one other : Value) (i j stamp : ℕ) → ((t : ℕ) × IsHere one other i j stamp t) ⊎ ((t : ℕ) → IsHere one other i j stamp t → ⊥)
 here_or_not one other i j stamp = elim (values_equal_or_apart one other) [
   | inr apart ↦ inr (λ t is. apart is.0)
   | inl same ↦ elim (cases_eq i j) [ inl here ↦ inl (stamp, (same, here, refl)) | inr apart ↦ inr (λ t is. apart is.1) ]
