@@ -1,15 +1,13 @@
-ghost use Rattle.std.specs.Prelude.{◌≡◌, ◌≤◌, ◌<◌, ◌+◌, ◌*◌, ◌^◌, ℕ, Err, IfOk, count_by, length};
-ghost use Rattle.std.specs.List.{AllByRecursion, AllZip};
+ghost use Rattle.std.specs.Prelude.{◌≡◌, ◌<◌, ◌+◌, ◌*◌, ◌^◌, ℕ, Err, IfOk, length};
+ghost use Rattle.std.specs.List.{AllByRecursion};
 ghost use Rattle.heap_model.specs.Heap.{IsHeap};
 ghost use Rattle.heap_model.specs.account.Noting.{IsSeatBelow};
 ghost use Rattle.reply_text.specs.History.{IsSpellable};
 ghost use Rattle.log_merge.specs.Legal.{IsLegalHistory};
 ghost use Rattle.log_merge.specs.Lines.{IsFirstIllegal};
-ghost use Rattle.space_plan.specs.plan.Cycles.{IsCyclePlan};
-ghost use Rattle.space_plan.specs.plan.Moments.{ends_of};
-ghost use Rattle.space_plan.specs.plan.Takes.{IsTaken};
 ghost use Rattle.space_plan.specs.cycle_turns.CycleTurns.{cycle_most};
-ghost use Rattle.space_plan.specs.plan.Totals.{IsGreatest, IsNeeded, IsReached, groups_for, is_full};
+ghost use Rattle.space_plan.specs.plan.Report.{IsPlan};
+ghost use Rattle.space_plan.specs.plan.Totals.{groups_for};
 ghost use Rattle.space_plan.specs.plan.Walking.{Passed, WalkFits};
 
 use crate::report::PlanReport;
@@ -75,18 +73,7 @@ pub fn plan(alloc: Global, history: &History) -> Result<PlanReport, CheckFault>
     ensures legal { IfOk result (λ _. IsLegalHistory history.now) }
     ensures not_legal { (line : ℕ) → result ≡ Err (CheckFault.NotLegal line) →
         IsFirstIllegal history.now line × ¬ IsLegalHistory history.now }
-    ensures cycles { IfOk result (λ report.
-        AllZip (IsCyclePlan history.now.heap) (ends_of history.now.entries) report.cycles.items) }
-    ensures reach { IfOk result (λ report.
-        IsGreatest (IsReached history.now.heap history.now.entries) report.most_reach) }
-    ensures takes { IfOk result (λ report.
-        IsGreatest (IsTaken history.now.heap history.now.entries) report.most_takes) }
-    ensures need { IfOk result (λ report. IsGreatest (IsNeeded history.now.entries) report.most_need) }
-    ensures groups { IfOk result (λ report.
-        report.groups ≡ groups_for report.most_reach report.most_takes history.now.heap.seats report.most_need) }
-    ensures turns { IfOk result (λ report. report.turns ≡ cycle_most history.now.heap) }
-    ensures full { IfOk result (λ report. report.full ≡ count_by is_full history.now.entries) }
-    ensures enough { IfOk result (λ report. report.groups ≤ history.now.heap.groups → report.full ≡ 0) }
+    ensures plan { IfOk result (IsPlan history.now) }
 {
     check(alloc, history)?;
     let entries = history.entries.as_slice();

@@ -19,15 +19,6 @@ returns-clause-ok c =
     record {
       is = record { history = c.in_ok-history.history; spelled = c.in_ok-history.ensures.ok; play = c.in_ok-history.ensures.play; legal = plans.legal };
       report = c.in_ok-report.report;
-      planned = record {
-        cycles = plans.cycles;
-        reach = plans.reach;
-        takes = plans.takes;
-        need = plans.need;
-        groups = plans.groups;
-        turns = plans.turns;
-        full = plans.full;
-        enough = plans.enough;
-      };
+      planned = plans.plan;
       told = c.in_ok-text.ensures;
     }
