@@ -74,14 +74,15 @@ pub record ReadsNoMore (words : List (List ℕ)) (left left' : Option (List ℕ)
   pub lost : IsReadUpTo work left left'
 
 -- what a status says of the words, of what was read and written, and of the table that is left
-abbrev pub Says : List (List ℕ) → Option (List ℕ) → Option (List ℕ) → Option (List ℕ) → Option (List ℕ) → Option ClosedTable → Status → Type 0
-Says words left left' taken taken' closed statuses.Done = WritesAll words left left' taken taken' closed
-Says words left left' taken taken' closed (statuses.Refused line cause) = IsRefusedAt words left left' line cause
-Says words left left' taken taken' closed (statuses.NotLegal line) = IsNotLegal words left left' line
-Says words left left' taken taken' closed statuses.TooLong = ReadsTooMuch words left left'
-Says words left left' taken taken' closed statuses.WriteFault = WritesFront words left left' taken taken'
-Says words left left' taken taken' closed statuses.Usage = ¬ IsForm words
-Says words left left' taken taken' closed _ = Unit {0}
+abbrev pub StatusSays : List (List ℕ) → Option (List ℕ) → Option (List ℕ) → Option (List ℕ) → Option (List ℕ) → Option ClosedTable → Status → Type 0
+StatusSays words left left' taken taken' closed statuses.Done = WritesAll words left left' taken taken' closed
+StatusSays words left left' taken taken' closed (statuses.Refused line cause) = IsRefusedAt words left left' line cause
+StatusSays words left left' taken taken' closed (statuses.NotLegal line) = IsNotLegal words left left' line
+StatusSays words left left' taken taken' closed statuses.TooLong = ReadsTooMuch words left left'
+StatusSays words left left' taken taken' closed statuses.WriteFault = WritesFront words left left' taken taken'
+StatusSays words left left' taken taken' closed statuses.Usage = ¬ IsForm words
+StatusSays words left left' taken taken' closed statuses.ReadFault = Unit {0}
+StatusSays words left left' taken taken' closed statuses.Memory = Unit {0}
 
 -- the source's count of faults rose where the status tells so, and else it is as it was
 abbrev pub CountsReads : Status → ℕ → ℕ → Type 0

@@ -3,7 +3,7 @@ ghost use Rattle.form_words.specs.Works.{AskFor, IsForm, HasInput};
 ghost use Rattle.form_words.specs.declared.work.Work.{Work as AWork};
 ghost use Rattle.io_edge.specs.Faults.{Rose};
 ghost use Rattle.schism_program.specs.Due.{IsDue};
-ghost use Rattle.schism_program.specs.Outcome.{CountsReads, CountsWrites, IsWriting, ReadsNoMore, Says};
+ghost use Rattle.schism_program.specs.Outcome.{CountsReads, CountsWrites, IsWriting, ReadsNoMore, StatusSays};
 
 use crate::fault::WorkFault;
 use crate::input::read_input;
@@ -41,7 +41,7 @@ pub fn schism<S: Source, K: Sink, G: Gate, R: Threads + Wait + Sync>(
     gate: &G,
     closed: &mut Option<Closed>,
 ) -> Status
-    ensures says { Says (map (λ w. w.now) words.now)
+    ensures says { StatusSays (map (λ w. w.now) words.now)
         (S.left source.old) (S.left source.new) (K.taken sink.old) (K.taken sink.new) closed.new result }
     ensures formless { ¬ IsForm (map (λ w. w.now) words.now) → (result ≡ Status.Usage) ⊎ (result ≡ Status.Memory) }
     ensures unread { ¬ IsForm (map (λ w. w.now) words.now) → source.new ≡ source.old }
