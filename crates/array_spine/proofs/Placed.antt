@@ -46,7 +46,9 @@ made_of : (tells : Step → ℕ → Type 0) (heap : Heap) (number d cells : ℕ)
     → (id : Id) × (reply ≡ replies.Made id) × IsMade tells heap number (Array d cells) before kept first id
 made_of tells heap number d cells before kept first (replies.Made id) enough fewer stands = (id, refl, stands)
 made_of tells heap number d cells before kept first (replies.Got value stamp) enough fewer stands = absurd stands.a_get
-made_of tells heap number d cells before kept first (replies.Was stamp) enough fewer stands = absurd stands.a_set
+made_of tells heap number d cells before kept first (replies.Was stamp) enough fewer (inl stands) = absurd stands.a_set
+made_of tells heap number d cells before kept first (replies.Was stamp) enough fewer (inr stands) = absurd stands.compared.a_cas
+made_of tells heap number d cells before kept first (replies.Now stamp) enough fewer stands = absurd stands.compared.a_cas
 made_of tells heap number d cells before kept first replies.Done enough fewer stands = absurd stands.local
 made_of tells heap number d cells before kept first replies.Yes enough fewer stands = absurd stands.local
 made_of tells heap number d cells before kept first replies.No enough fewer stands = absurd stands.local

@@ -15,13 +15,14 @@ use Rattle.core_machine.proofs.Terms.{Point}
 use Rattle.core_machine.proofs.kinds.SeatKind.{PointKind}
 use Rattle.core_machine.proofs.moves.Standing.{PointStands}
 use Rattle.core_machine.proofs.call_lemmas.Playing.{grants_alone, withdraws_alone, claims_alone, gives_back_alone, refuses_alone, places_alone, lists_alone, stores_alone, bears_alone}
-use Rattle.core_machine.proofs.call_lemmas.PlayingAccess.{opens_alone, walks_alone, locates_alone, indexes_alone, gets_alone, names_alone, loads_old_alone, shades_old_alone, shades_new_alone, swaps_alone}
+use Rattle.core_machine.proofs.call_lemmas.PlayingAccess.{opens_alone, walks_alone, locates_alone, indexes_alone, gets_alone, names_alone, loads_old_alone, shades_old_alone, shades_new_alone, swaps_alone, shades_side_alone, replaces_alone}
 use Rattle.core_machine.proofs.call_lemmas.PlayingEnds.{tells_alone}
 use Rattle.core_machine.proofs.call_lemmas.PlayingLeaves.{empties_alone, parting_alone}
 use Rattle.core_machine.proofs.call_lemmas.PlayingPolls.{asks_alone, roots_alone, answers_alone}
 use Rattle.core_machine.proofs.moves.Array.{point_stands_at_granting, point_stands_at_withdrawing, point_stands_at_placing, point_stands_at_listing}
 use Rattle.core_machine.proofs.moves.Birth.{point_stands_at_storing, point_stands_at_bearing}
 use Rattle.core_machine.proofs.moves.Collect.{point_stands_at_looking, point_stands_at_look_asking, point_stands_at_comparing, point_stands_at_noting}
+use Rattle.core_machine.proofs.moves.Compare.{point_stands_at_shading_side, point_stands_at_replacing}
 use Rattle.core_machine.proofs.moves.Gather.{point_stands_at_gathering, point_stands_at_returning, point_stands_at_refusing}
 use Rattle.core_machine.proofs.moves.Get.{point_stands_at_getting, point_stands_at_naming}
 use Rattle.core_machine.proofs.moves.Leave.{point_stands_at_emptying, point_stands_at_parting}
@@ -33,6 +34,7 @@ use Rattle.core_machine.proofs.moves.Spine.{point_stands_at_locating, point_stan
 use Rattle.core_machine.proofs.moves.Walk.{point_stands_at_walking}
 use Rattle.core_machine.proofs.own_stages.Answer.{point_leads_at_poll_asking, point_leads_at_shading, point_leads_at_answering, point_leads_at_emptying, point_leads_at_parting, point_leads_at_local}
 use Rattle.core_machine.proofs.own_stages.Birth.{point_leads_at_placing, point_leads_at_listing, point_leads_at_storing, point_leads_at_bearing}
+use Rattle.core_machine.proofs.own_stages.Compare.{point_leads_at_shading_side, point_leads_at_replacing}
 use Rattle.core_machine.proofs.own_stages.Field.{point_leads_at_getting, point_leads_at_naming, point_leads_at_loading_old, point_leads_at_shading_old, point_leads_at_shading_new, point_leads_at_swapping}
 use Rattle.core_machine.proofs.own_stages.Gather.{point_leads_at_granting, point_leads_at_withdrawing, point_leads_at_gathering, point_leads_at_returning, point_leads_at_refusing}
 use Rattle.core_machine.proofs.own_stages.Way.{point_leads_at_loading_meta, point_leads_at_walking, point_leads_at_locating, point_leads_at_indexing}
@@ -66,9 +68,11 @@ access_kind access.Indexing = record { stands = point_stands_at_indexing; leads 
 access_kind access.Getting = record { stands = point_stands_at_getting; leads = point_leads_at_getting; alone = gets_alone }
 access_kind access.Naming = record { stands = point_stands_at_naming; leads = point_leads_at_naming; alone = names_alone }
 access_kind access.LoadingOld = record { stands = point_stands_at_loading_old; leads = point_leads_at_loading_old; alone = loads_old_alone }
+access_kind (access.ShadingSide side) = record { stands = point_stands_at_shading_side side; leads = λ tells. point_leads_at_shading_side tells side; alone = shades_side_alone side }
 access_kind access.ShadingOld = record { stands = point_stands_at_shading_old; leads = point_leads_at_shading_old; alone = shades_old_alone }
 access_kind access.ShadingNew = record { stands = point_stands_at_shading_new; leads = point_leads_at_shading_new; alone = shades_new_alone }
 access_kind access.Swapping = record { stands = point_stands_at_swapping; leads = point_leads_at_swapping; alone = swaps_alone }
+access_kind access.Replacing = record { stands = point_stands_at_replacing; leads = point_leads_at_replacing; alone = replaces_alone }
 
 -- the kinds of step of a poll
 polling_kind : (point : Polling) → PointKind (points.Polling point)

@@ -2,6 +2,7 @@
 pub mod Array
 pub mod Birth
 pub mod Collect
+pub mod Compare
 pub mod Gather
 pub mod Get
 pub mod Leave
@@ -56,6 +57,7 @@ begin_at (commands.New d fields) = Gather.command_stands_for_new d fields
 begin_at (commands.Array d cells) = Array.command_stands_for_array d cells
 begin_at (commands.Get d r i) = Open.begin_stands_at_access (commands.Get d r i) tt
 begin_at (commands.Set r i v) = Open.begin_stands_at_access (commands.Set r i v) tt
+begin_at (commands.Cas r i a v) = Open.begin_stands_at_access (commands.Cas r i a v) tt
 begin_at (commands.Num d n) = λ heap number seat ready. Local.local_begin_stands (commands.Num d n) heap number seat ready tt
 begin_at (commands.Nil d) = λ heap number seat ready. Local.local_begin_stands (commands.Nil d) heap number seat ready tt
 begin_at (commands.Copy d r) = λ heap number seat ready. Local.local_begin_stands (commands.Copy d r) heap number seat ready tt

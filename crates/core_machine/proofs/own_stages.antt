@@ -3,6 +3,7 @@ pub mod Answer
 pub mod Begin
 pub mod Birth
 pub mod Claiming
+pub mod Compare
 pub mod End
 pub mod Field
 pub mod Gather

@@ -19,7 +19,7 @@ pub use log::told::ToldLog;
 pub use log::{CountsEntries, Entries, ShowsLast, ShowsRecent};
 pub use machine::Machine;
 pub use machine::opening::opening_words;
-pub use point::{Access, Collecting, Leaving, Making, Point, Polling};
+pub use point::{Access, Collecting, Leaving, Making, Point, Polling, Side};
 pub use seat::SeatParty;
 pub use seat::collecting::noted;
 pub use seat::looks::Looks;

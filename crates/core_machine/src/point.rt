@@ -65,6 +65,19 @@ pub enum Access {
     ShadingNew,
     /// The field gets its new word.
     Swapping,
+    /// With the barrier on, the object is shaded that a compare and swap expects in the field, or puts there.
+    ShadingSide(Side),
+    /// The field gets its new word where it has the one that is expected.
+    Replacing,
+}
+
+/// One of the two values of a compare and swap.
+#[derive(Clone, Copy)]
+pub enum Side {
+    /// The value that is expected in the field.
+    Expected,
+    /// The value that it gets.
+    New,
 }
 
 /// Where a seat stands while it answers the phase.

@@ -21,6 +21,7 @@ mod begins;
 mod birth;
 pub(crate) mod collecting;
 pub(crate) mod commands;
+mod compare;
 mod due;
 mod gather;
 mod hands;
@@ -36,10 +37,11 @@ mod walk;
 /// Where no spine stands that the seat knows of.
 const NO_SPOT: Spot = Spot { half: 0, offset: 0 };
 
-/// What is kept of a seat: its registers, its fragments, its call in flight, what it answered, and its entries in a log.
+/// What is kept of a seat: its registers with the stamps that they were seen under, its fragments, its call in flight, what it answered, and its entries in a log.
 #[derive(Drop)]
 pub struct SeatParty<L: Entries = Log> {
     pub(crate) registers: [Register; REGISTER_COUNT],
+    pub(crate) seen: [u32; REGISTER_COUNT],
     pub(crate) reserve: Reserve,
     pub(crate) cursor: u16,
     pub(crate) hands: Hands,
@@ -74,6 +76,7 @@ impl<L: Entries> Model for SeatParty<L> {
     ghost view = { λ party. record {
       seat = record {
         registers = party.registers;
+        seen = party.seen;
         reserve = party.reserve.items;
         cursor = party.cursor;
         hand = party.hands.hand;
@@ -118,6 +121,7 @@ impl<L: Entries> SeatParty<L> {
         };
         SeatParty {
             registers,
+            seen: [0; REGISTER_COUNT],
             reserve: Reserve::new(),
             cursor: u16::from(number) % heap.groups,
             hands: Hands::empty(),

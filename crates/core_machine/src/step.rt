@@ -45,17 +45,40 @@ pub enum MakingStep {
 #[derive(Clone, Copy)]
 pub enum AccessStep {
     /// The first word of a fragment is loaded: a meta or a link.
-    WalkLoad { fragment: u16 },
+    WalkLoad {
+        fragment: u16,
+    },
     /// An object's name is loaded from its first fragment.
-    NameLoad { head: u16 },
+    NameLoad {
+        head: u16,
+    },
     /// A field is loaded for a get.
-    GetLoad { fragment: u16, part: u8 },
+    GetLoad {
+        fragment: u16,
+        part: u8,
+    },
     /// A field is loaded for a set.
-    OldLoad { fragment: u16, part: u8 },
+    OldLoad {
+        fragment: u16,
+        part: u8,
+    },
     /// A fragment is marked.
-    Shade { fragment: u16 },
+    Shade {
+        fragment: u16,
+    },
     /// A field gets another word.
-    Swap { fragment: u16, part: u8, word: u64 },
+    Swap {
+        fragment: u16,
+        part: u8,
+        word: u64,
+    },
+    /// A field gets the new word where it has the old one.
+    CompareSwap {
+        fragment: u16,
+        part: u8,
+        old: u64,
+        new: u64,
+    },
 }
 
 /// A step on spines. The loads are the collector's too.

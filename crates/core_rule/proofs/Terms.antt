@@ -30,7 +30,8 @@ pub use Rattle.core_machine.specs.Moves.{Move, access_move, birth_move, claim_mo
 pub use Rattle.core_machine.specs.collector.Collector.{Collector, after_advance, after_counted_look, after_last_look, after_look, first_work, has_answered_of, next_turn, opening_collector, turn_at}
 pub use Rattle.core_machine.specs.collector.FitsTurns.{FitsCopying, HasCleared, HasLooked, IsBlackening, IsClearing, IsCopying, IsExamining, IsFreeing, IsIndexing, IsAddressing, IsMarking, IsPassing, IsReturning, IsScanning, IsShading, IsSpreading, IsSweeping}
 pub use Rattle.core_machine.specs.declared.collector.stage.Stage.{Stage}
-pub use Rattle.core_machine.specs.declared.point.Access.TheVariants.{Getting, Indexing, LoadingMeta, LoadingOld, ShadingNew, ShadingOld, Swapping, Walking}
+pub use Rattle.core_machine.specs.declared.point.Access.TheVariants.{Getting, Indexing, LoadingMeta, LoadingOld, Replacing, ShadingNew, ShadingOld, ShadingSide, Swapping, Walking}
+pub use Rattle.core_machine.specs.declared.point.Side.{Side}
 pub use Rattle.core_machine.specs.declared.point.Making.TheVariants.{Bearing, Gathering, Granting, Listing, Placing, Refusing, GivingBack, Withdrawing}
 pub use Rattle.core_machine.specs.declared.point.Point.{Point}
 pub use Rattle.core_machine.specs.declared.seat.register.Register.{Register}
@@ -38,11 +39,11 @@ pub use Rattle.core_machine.specs.declared.table.address.Address.TheVariants.{Bu
 pub use Rattle.core_machine.specs.machine.Machine.{Begins, BeginsInner, Can, Event, MayBegin, MayBeginInner, Run, State, Steps, Turns, after_begin, after_inner_begin, call_start, entries, entries_shown, found_by, history, seat_at, state_after, state_after_all, state_after_due, state_after_move, state_after_turn}
 unfoldable pub use Rattle.core_machine.specs.machine.Sums.{sum_upto}
 pub use Rattle.core_machine.specs.machine.Value.{IsMachine, MachineValue, log_of}
-pub use Rattle.core_machine.specs.seat.Access.{access_start, after_get, after_index, after_length, after_link, after_meta, after_old, after_old_load, after_walk, at_access, at_payload, field_point_of, has_barrier_of, meta_reply_of, new_point_of, part_of, row_of, way_point_of, with_field_place}
-pub use Rattle.core_machine.specs.seat.Commands.{IsArrayCall, IsRecordCall, IsServed, MakesObject, field_of, object_of, source_of, target_of}
+pub use Rattle.core_machine.specs.seat.Access.{access_start, after_get, after_index, after_length, after_link, after_meta, after_old, after_old_load, after_walk, at_access, at_payload, field_point_of, guard_point_of, has_barrier_of, meta_reply_of, new_point_of, part_of, row_of, side_of, side_register_of, way_point_of, with_field_place}
+pub use Rattle.core_machine.specs.seat.Commands.{IsArrayCall, IsRecordCall, IsServed, MakesObject, expected_of, field_of, object_of, source_of, target_of}
 pub use Rattle.core_machine.specs.seat.Fits.{AreFragments, Fits, FitsPoint, FitsWay, HandFits, HasArrayBody, HasBody, HasNoSpine, IsAtRest, IsLocal, IsSilent, MakesNext, SeatIsGathering, SeatIsRefusing, SeatIsWithdrawing, SpineIsListed}
 pub use Rattle.core_machine.specs.seat.Making.{after_budget, after_claim, after_give_back, after_last_birth, after_listing, after_store, before_run, first_group_of, fragments_gathered, gather_next, last_claimed, last_group_of, last_run, list_point, newborn_word, newborn_word_of, next_group_of, next_name, next_object_id, refusal_point, run_of, settled_point, store_point}
-pub use Rattle.core_machine.specs.seat.Registers.{heads_of, is_same_id, is_same_value, register_head, register_in, register_word, value_of}
+pub use Rattle.core_machine.specs.seat.Registers.{heads_of, is_same_id, is_same_value, register_head, register_in, register_word, seen_in, value_of}
 pub use Rattle.core_machine.specs.seat.Seat.{HasNumberLeft, Seat, absent_seat, after_call, call_over, need, no_spot, seat_after_reply, spine_need, with_entries, with_seen}
 pub use Rattle.core_machine.specs.table.Decode.{id_of, id_of_owner, plain_of, plain_register, spine_words_in}
 pub use Rattle.core_machine.specs.table.Fragments.{clear_in, in_group, is_clear, out_of_group, inside_group, outside_group, tally}
@@ -57,10 +58,10 @@ pub use Rattle.core_rule.specs.colours.Colours.{BornColours, Coloured, HasBirthC
 pub use Rattle.core_rule.specs.copies.Replicas.{AddressStands, BeginsArray, CallsObject, CopyInHand, CopyingStands, HasFoundArray, HasLoaded, IsLeftReplica, IsToCopy, ReadsSpine, VisitIsMarked, WhileLoaded, copy_in}
 pub use Rattle.core_rule.specs.counts.Counts.{AreUsed, Awaits, CountsAgree, IsAwaitingName, OwnList}
 pub use Rattle.core_rule.specs.cycle.Cycle.{HeapInCycle, SeatInCycle}
-pub use Rattle.core_rule.specs.cycle.Flight.{DeletionBarrier, FieldStands, Flight, IsRootMarked, RootsStand, ShadedStands, WhileAccess, WhilePolling, objects_before}
+pub use Rattle.core_rule.specs.cycle.Flight.{DeletionBarrier, FieldStands, Flight, IsRootMarked, IsSideMarked, RootsStand, ShadedStands, WhileAccess, WhilePolling, objects_before}
 pub use Rattle.core_rule.specs.cycle.Phases.{AnswerStands, AnswersAgree, Asks, CollectorAgrees, IsNear, PollingStands, answer_word}
 pub use Rattle.core_rule.specs.gather.Gathers.{Began, GathersRight, IsAnswered, free_in, free_in_all, free_in_passed}
-pub use Rattle.core_rule.specs.graph.Registers.{HoldsValue, IsAwaited, Registers}
+pub use Rattle.core_rule.specs.graph.Registers.{HoldsValue, IsAwaited, Registers, SeenStands, graph_stamps, stamps_at}
 pub use Rattle.core_rule.specs.halves.Halves.{AwaitsCopy, AwaitsVisit, HalvesStand, IsBeforeNext, IsEarlyRange, IsLeaving, IsLeftBehind, IsToVisit, WhileCopying, half_at, is_advancing}
 pub use Rattle.core_rule.specs.hand.Holding.{Holding, IsStored, fragments_in_hand}
 pub use Rattle.core_rule.specs.marking.Marking.{AfterMarking, ComesAfter, IsFewCopied, IsFewWords, IsKeptFragment, IsSeen, IsSeenWhole, IsSpineOf, MarkingStands, MayMark, PassStands, ScanStands}

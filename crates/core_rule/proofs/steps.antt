@@ -11,6 +11,7 @@ pub mod StepKinds
 pub mod ReplyStep
 pub mod QuietLoads
 pub mod LocalStep
+pub mod WriteStep
 pub mod Loads
 pub mod ShadeStep
 pub mod BarrierSteps

@@ -1,5 +1,6 @@
 -- What loaded words tell, and the way to a field.
 pub mod Told
+pub mod SameCells
 pub mod ArrayWords
 pub mod KeptWords
 pub mod Chains

@@ -1,7 +1,7 @@
 use Rattle.std.specs.Prelude.{ℕ, ◌<◌, ◌≤◌}
 use Rattle.heap_model.specs.Limits.{last_register, last_index, most_fields, most_cells, number_limit}
 use Rattle.heap_model.specs.declared.command.Command.{Command}
-use Rattle.heap_model.specs.declared.command.Command.TheVariants.{New, Array, Get, Set, Num, Nil, Copy, Same, Len, Poll, Collect, Leave}
+use Rattle.heap_model.specs.declared.command.Command.TheVariants.{New, Array, Get, Set, Cas, Num, Nil, Copy, Same, Len, Poll, Collect, Leave}
 
 -- the number is from the least to the most, both of these included
 abbrev pub IsWithin : ℕ → ℕ → ℕ → Type 0
@@ -25,6 +25,7 @@ IsCommand (New d fields) = IsTarget d × IsWithin 1 most_fields fields
 IsCommand (Array d cells) = IsTarget d × IsWithin 1 most_cells cells
 IsCommand (Get d r i) = IsTarget d × IsRegister r × IsIndex i
 IsCommand (Set r i v) = IsRegister r × IsIndex i × IsRegister v
+IsCommand (Cas r i a v) = IsRegister r × IsIndex i × IsRegister a × IsRegister v
 IsCommand (Num d n) = IsTarget d × (n < number_limit)
 IsCommand (Nil d) = IsTarget d
 IsCommand (Copy d r) = IsTarget d × IsRegister r

@@ -57,7 +57,7 @@ most_reserve = 15
 abbrev pub name_limit : ℕ
 name_limit = 2 ^ 32
 
--- a seat does fewer sets than this
+-- a seat does fewer sets than this, its cas that swapped counted too
 abbrev pub stamp_limit : ℕ
 stamp_limit = 2 ^ 26
 

@@ -57,6 +57,8 @@ impl Account {
     ghost use Rattle.heap_model.specs.account.Account.{KeepsSpace, MayLackMemory};
     ghost use Rattle.heap_model.specs.account.Books.{Tells};
     ghost use Rattle.heap_model.specs.account.Noting.{IsSeatBelow};
+    ghost use Rattle.heap_model.specs.account.Windows.{up_to_cycle};
+    ghost use Rattle.heap_model.specs.graph.Sizes.{HasReach};
 
     /// The account of a heap in which nothing was done yet.
     pub fn new(alloc: Global, heap: Heap) -> Result<Account, Memory>
@@ -144,6 +146,13 @@ impl Account {
         ensures { (history : List Entries) → Tells self.now history → result ≡ words_used history }
     {
         self.all.words.saturating_sub(self.all.returned)
+    }
+
+    /// The fragments of what was reached when the last cycle began.
+    pub fn reached_then(&self) -> u128
+        ensures { (history : List Entries) → Tells self.now history → 1 ≤ phase history → HasReach (graph_of self.now.heap (up_to_cycle history)) result }
+    {
+        self.cycle.frags
     }
 
     /// The phase, how many were begun.

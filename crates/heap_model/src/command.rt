@@ -5,13 +5,15 @@ ghost use Rattle.heap_model.specs.Needs.{record_fragments, need_of, spine_need_o
 use crate::limits::{LAST_INDEX, LAST_REGISTER, MOST_CELLS, MOST_FIELDS, NUMBER_LIMIT};
 
 /// What a seat asks of the heap. `d` is the register that the answer goes to, `r`, `v`, `a` and `b` are registers
-/// that are read, and `i` is the index of a field or a cell.
+/// that are read, and `i` is the index of a field or a cell. A `Cas` sets the cell exactly where it has the value
+/// and the stamp that `a` was read with.
 #[derive(Clone, Copy, Debug, PartialEq, Eq)]
 pub enum Command {
     New { d: u8, fields: u16 },
     Array { d: u8, cells: u16 },
     Get { d: u8, r: u8, i: u32 },
     Set { r: u8, i: u32, v: u8 },
+    Cas { r: u8, i: u32, a: u8, v: u8 },
     Num { d: u8, n: u32 },
     Nil { d: u8 },
     Copy { d: u8, r: u8 },
@@ -32,6 +34,9 @@ impl Command {
             Command::Array { d, cells } => is_target(d) && 1 <= cells && cells <= MOST_CELLS,
             Command::Get { d, r, i } => is_target(d) && is_register(r) && i <= LAST_INDEX,
             Command::Set { r, i, v } => is_register(r) && i <= LAST_INDEX && is_register(v),
+            Command::Cas { r, i, a, v } => {
+                is_register(r) && i <= LAST_INDEX && is_register(a) && is_register(v)
+            }
             Command::Num { d, n } => is_target(d) && n < NUMBER_LIMIT,
             Command::Nil { d } => is_target(d),
             Command::Copy { d, r } => is_target(d) && is_register(r),

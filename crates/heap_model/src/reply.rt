@@ -7,6 +7,8 @@ pub enum Reply {
     Got { value: Value, stamp: u32 },
     /// The stamp of the cell before it was set.
     Was(u32),
+    /// The stamp of the cell that a cas found to be another one than it was given, and left as it is.
+    Now(u32),
     Done,
     Yes,
     No,

@@ -85,6 +85,7 @@ module _ (number : ℕ) (seat : Seat) (words : List ℕ) (found : ℕ) where
   access_of_heap heap access.LoadingMeta = reply_of_heap (meta_reply_of seat.command found)
   access_of_heap heap access.Getting = got_of_heap heap (head_of found)
   access_of_heap heap access.Swapping = (refl, tt)
+  access_of_heap heap access.Replacing = (refl, tt)
   access_of_heap heap _ = tt
 
   polling_of_heap : (point : Polling) → AreOfHeap ((polling_move number seat point).shows words found)

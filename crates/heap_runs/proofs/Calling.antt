@@ -60,6 +60,7 @@ callable_may_begin whole number command once s between may =
     number_again (commands.New d fields) has = has
     number_again (commands.Array d cells) has = has
     number_again (commands.Set r i v) has = has
+    number_again (commands.Cas r i a v) has = has
     number_again _ has = tt
 
 -- the machine's call is one of a heap that is played on

@@ -154,6 +154,7 @@ number_same : (old new : SeatHeld) (command : Command) → own_graph_seat (seat_
 number_same old new (commands.New d fields) same has = omega (arith, has, ap (λ (s : GraphSeat). length s.objects) same)
 number_same old new (commands.Array d cells) same has = omega (arith, has, ap (λ (s : GraphSeat). length s.objects) same)
 number_same old new (commands.Set r i v) same has = omega (arith, has, ap (λ (s : GraphSeat). s.sets) same)
+number_same old new (commands.Cas r i a v) same has = omega (arith, has, ap (λ (s : GraphSeat). s.sets) same)
 number_same old new _ same has = tt
 
 pub next_command_is_ready : (old ready : SeatHeld) (command : Command) → MayMakeNext old command → MakesRoom old ready → 2 * need_of command + 4 ≤ ready.spare → IsReady (seat_state ready) command

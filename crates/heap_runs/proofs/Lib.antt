@@ -3,6 +3,7 @@ pub mod ArrayCalls
 pub mod Behind
 pub mod Between
 pub mod Bounds
+pub mod CallEntries
 pub mod Calling
 pub mod CollectEnds
 pub mod Collecting
@@ -16,6 +17,7 @@ pub mod Lines
 pub mod LooksOn
 pub mod NextLine
 pub mod Noted
+pub mod PlayTexts
 pub mod RoleOn
 pub mod RunsEnd
 pub mod SeatTells

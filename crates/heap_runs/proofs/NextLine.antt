@@ -27,6 +27,7 @@ in_range (commands.New d fields) scripted = scripted
 in_range (commands.Array d cells) scripted = scripted
 in_range (commands.Get d r i) scripted = scripted
 in_range (commands.Set r i v) scripted = scripted
+in_range (commands.Cas r i a v) scripted = absurd scripted
 in_range (commands.Num d n) scripted = scripted
 in_range (commands.Nil d) scripted = scripted
 in_range (commands.Copy d r) scripted = scripted
@@ -40,6 +41,7 @@ numbers_left : (state : PlayState) (number calls : ℕ) (command : Command) → 
 numbers_left state number calls (commands.New d fields) short few = omega (arith, short, few.few_objects)
 numbers_left state number calls (commands.Array d cells) short few = omega (arith, short, few.few_objects)
 numbers_left state number calls (commands.Set r i v) short few = omega (arith, short, few.few_sets)
+numbers_left state number calls (commands.Cas r i a v) short few = omega (arith, short, few.few_sets)
 numbers_left state number calls _ short few = tt
 
 module _ (script : Script) (items : List Line) (i : ℕ) (d line : Line) (all : items ≡ script.lines) (form : IsOfForm Play script) (below : i < length items) (is : get_or items i d ≡ line) where

@@ -45,6 +45,7 @@ module _ (state : PlayState) (number : ℕ) where
       numbered (commands.New d fields) has = omega (arith, has, ap (λ (s : GraphSeat). length s.objects) own_same)
       numbered (commands.Array d cells) has = omega (arith, has, ap (λ (s : GraphSeat). length s.objects) own_same)
       numbered (commands.Set r i v) has = omega (arith, has, ap (λ (s : GraphSeat). s.sets) own_same)
+      numbered (commands.Cas r i a v) has = omega (arith, has, ap (λ (s : GraphSeat). s.sets) own_same)
       numbered _ has = tt
 
   module _ (command : Command) where

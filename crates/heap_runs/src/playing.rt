@@ -1,6 +1,8 @@
 ghost use Rattle.std.specs.Prelude.{◌≡◌, true, [], length, is_some, option_map, IfOk, OnOk};
+ghost use Rattle.std.specs.List.{AllByRecursion};
 ghost use Rattle.script_text.specs.declared.script.Form.TheVariants.{Play};
 ghost use Rattle.script_text.specs.Writing.{IsOfForm};
+ghost use Rattle.reply_text.specs.Written.{HasText};
 ghost use Rattle.heap_runs.specs.Play.{IsPlay, IsPlayThat, StandForEach};
 ghost use Rattle.heap_runs.specs.PlayHeap.{MayCall};
 ghost use Rattle.heap_runs.specs.Pressed.{StandsByWay, IsPressedPlay};
@@ -108,7 +110,8 @@ fn play_by<H: PlayHeap + Drop>(
     requires whole { (H.state whole).heap ≡ heap }
     requires heap { heap ≡ script.now.heap }
     requires fresh { (H.state whole).entries ≡ [] }
-    ensures { IfOk result (IsPlayThat (StandForEach (StandsByWay way script.now.heap (is_some pace)) []) script.now) }
+    ensures played { IfOk result (IsPlayThat (StandForEach (StandsByWay way script.now.heap (is_some pace)) []) script.now) }
+    ensures spelled { IfOk result (λ history. AllByRecursion HasText history.entries) }
 {
     law_sweep_exact();
     let mut whole = answer_lines(whole, way, script, pace)?;
@@ -142,7 +145,8 @@ pub fn play<H: PlayHeap + Drop>(
     requires whole { (H.state whole).heap ≡ heap }
     requires heap { heap ≡ script.now.heap }
     requires form { IsOfForm Play script.now }
-    ensures { IfOk result (IsPlay (is_some pace) script.now) }
+    ensures played { IfOk result (IsPlay (is_some pace) script.now) }
+    ensures spelled { IfOk result (λ history. AllByRecursion HasText history.entries) }
 {
     play_by(whole, Allocating::Once, heap, script, pace)
 }
@@ -158,7 +162,8 @@ pub fn play_pressed<W: PlayHeap + Drop>(
     requires heap { heap ≡ script.now.heap }
     requires fresh { (W.state whole).entries ≡ [] }
     requires form { IsOfForm Play script.now }
-    ensures { IfOk result (IsPressedPlay (is_some pace) script.now) }
+    ensures played { IfOk result (IsPressedPlay (is_some pace) script.now) }
+    ensures spelled { IfOk result (λ history. AllByRecursion HasText history.entries) }
 {
     play_by(whole, Allocating::Pressed, heap, script, pace)
 }

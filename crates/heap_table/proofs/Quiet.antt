@@ -11,14 +11,14 @@ use Rattle.core_machine.specs.declared.collector.stage.Stage.TheVariants as stag
 use Rattle.core_machine.specs.declared.point.Point.{Point}
 use Rattle.core_machine.specs.declared.point.Point.TheVariants as points
 use Rattle.core_machine.specs.declared.point.Making.TheVariants.{Granting, Withdrawing, Gathering, GivingBack, Refusing, Placing, Listing, Storing, Bearing}
-use Rattle.core_machine.specs.declared.point.Access.TheVariants.{LoadingMeta, Walking, LoadingSpot, Indexing, Getting, Naming, LoadingOld, ShadingOld, ShadingNew, Swapping}
+use Rattle.core_machine.specs.declared.point.Access.TheVariants.{LoadingMeta, Walking, LoadingSpot, Indexing, Getting, Naming, LoadingOld, ShadingOld, ShadingNew, Swapping, ShadingSide, Replacing}
 use Rattle.core_machine.specs.declared.point.Polling.TheVariants as polling
 use Rattle.core_machine.specs.declared.point.Collecting.TheVariants as collecting
 use Rattle.core_machine.specs.declared.point.Leaving.TheVariants.{Emptying, Parting}
 use Rattle.core_machine.specs.declared.step.Step.{Step}
 use Rattle.core_machine.specs.declared.step.Step.TheVariants.{Making, PollLoad, Access, Spine, Handshake, Copying as Copies, Turning}
 use Rattle.core_machine.specs.declared.step.MakingStep.TheVariants.{Claim, GiveBack, NewbornStore, Birth, LastBirth}
-use Rattle.core_machine.specs.declared.step.AccessStep.TheVariants.{WalkLoad, NameLoad, GetLoad, OldLoad, Shade, Swap}
+use Rattle.core_machine.specs.declared.step.AccessStep.TheVariants.{WalkLoad, NameLoad, GetLoad, OldLoad, Shade, Swap, CompareSwap}
 use Rattle.core_machine.specs.declared.step.SpineStep.TheVariants.{BudgetAdd, BudgetTakeBack, SpotClaim, SpineStore, AddressLoad, WordLoad}
 use Rattle.core_machine.specs.declared.step.CopyingStep.TheVariants.{FlipStore, CopyClaim, CopyLoad, CopyStore, SwingStore, BudgetReturn}
 use Rattle.core_machine.specs.declared.step.TurningStep.TheVariants as turning
@@ -44,6 +44,7 @@ store_is_quiet (Access (GetLoad fragment part)) word stores = cc
 store_is_quiet (Access (OldLoad fragment part)) word stores = cc
 store_is_quiet (Access (Shade fragment)) word stores = refl
 store_is_quiet (Access (Swap fragment part swapped)) word stores = cc
+store_is_quiet (Access (CompareSwap fragment part old new)) word stores = cc
 store_is_quiet (Spine (BudgetAdd words)) word stores = cc
 store_is_quiet (Spine (BudgetTakeBack words)) word stores = refl
 store_is_quiet (Spine (SpotClaim words)) word stores = cc
@@ -82,6 +83,7 @@ refusing number seat n m (commands.Array d cells) is = λ e. rw is refl
 refusing number seat n m (commands.New d fields) is = λ e. let loads = sym (ap (λ (c : Command). is_quiet (refusal_step c (spine_need seat))) is) ∙ e in cc
 refusing number seat n m (commands.Get d r i) is = λ e. let loads = sym (ap (λ (c : Command). is_quiet (refusal_step c (spine_need seat))) is) ∙ e in cc
 refusing number seat n m (commands.Set r i v) is = λ e. let loads = sym (ap (λ (c : Command). is_quiet (refusal_step c (spine_need seat))) is) ∙ e in cc
+refusing number seat n m (commands.Cas r i a v) is = λ e. let loads = sym (ap (λ (c : Command). is_quiet (refusal_step c (spine_need seat))) is) ∙ e in cc
 refusing number seat n m (commands.Num d k) is = λ e. let loads = sym (ap (λ (c : Command). is_quiet (refusal_step c (spine_need seat))) is) ∙ e in cc
 refusing number seat n m (commands.Nil d) is = λ e. let loads = sym (ap (λ (c : Command). is_quiet (refusal_step c (spine_need seat))) is) ∙ e in cc
 refusing number seat n m (commands.Copy d r) is = λ e. let loads = sym (ap (λ (c : Command). is_quiet (refusal_step c (spine_need seat))) is) ∙ e in cc
@@ -113,6 +115,8 @@ same_at heap number seat n m (points.Access LoadingOld) = λ e. cc
 same_at heap number seat n m (points.Access ShadingOld) = λ e. refl
 same_at heap number seat n m (points.Access ShadingNew) = λ e. refl
 same_at heap number seat n m (points.Access Swapping) = λ e. cc
+same_at heap number seat n m (points.Access (ShadingSide side)) = λ e. refl
+same_at heap number seat n m (points.Access Replacing) = λ e. cc
 same_at heap number seat n m (points.Polling polling.Asking) = λ e. cc
 same_at heap number seat n m (points.Polling polling.Shading) = λ e. refl
 same_at heap number seat n m (points.Polling polling.Answering) = λ e. refl

@@ -64,6 +64,7 @@ begun_busy heap seat (commands.New d fields) served e =
 begun_busy heap seat (commands.Array d cells) served e = cc
 begun_busy heap seat (commands.Get d r i) served e = opened_busy (record seat { command = commands.Get d r i }) (register_in seat.registers r) e
 begun_busy heap seat (commands.Set r i v) served e = opened_busy (record seat { command = commands.Set r i v }) (register_in seat.registers r) e
+begun_busy heap seat (commands.Cas r i a v) served e = opened_busy (record seat { command = commands.Cas r i a v }) (register_in seat.registers r) e
 begun_busy heap seat (commands.Num d n) served e = cc
 begun_busy heap seat (commands.Nil d) served e = cc
 begun_busy heap seat (commands.Copy d r) served e = cc

@@ -42,6 +42,7 @@ number_few : (made sets position : ℕ) (command : Command) → made ≤ positio
 number_few made sets position (commands.New d fields) few_made few_sets few = omega (arith, few_made, few)
 number_few made sets position (commands.Array d cells) few_made few_sets few = omega (arith, few_made, few)
 number_few made sets position (commands.Set r i v) few_made few_sets few = omega (arith, few_sets, few)
+number_few made sets position (commands.Cas r i a v) few_made few_sets few = omega (arith, few_sets, few)
 number_few made sets position _ few_made few_sets few = tt
 
 module _ (runs : EveryRunKeeps) (given : Given) (recorded : Recorded) (seats : List Progress) (number : ℕ) (run : IsRunFrom given recorded) (all : AllHaveCome given recorded.history recorded.machine.state seats)

@@ -6,17 +6,19 @@ use Rattle.heap_model.specs.declared.command.Command.{Command}
 use Rattle.heap_model.specs.declared.command.Command.TheVariants as commands
 use Rattle.heap_model.specs.declared.heap.Heap.{Heap}
 use Rattle.heap_model.specs.declared.reply.Reply.{Reply}
-use Rattle.core_machine.specs.declared.point.Access.TheVariants.{LoadingMeta, Walking, LoadingSpot, Indexing, Getting, Naming, LoadingOld, ShadingOld, ShadingNew, Swapping}
+use Rattle.core_machine.specs.declared.point.Access.TheVariants.{LoadingMeta, Walking, LoadingSpot, Indexing, Getting, Naming, LoadingOld, ShadingOld, ShadingNew, Swapping, ShadingSide, Replacing}
 use Rattle.core_machine.specs.declared.point.Leaving.TheVariants.{Emptying, Parting}
 use Rattle.core_machine.specs.declared.point.Making.TheVariants.{Granting, Withdrawing, Gathering, GivingBack, Refusing, Placing, Listing, Storing, Bearing}
 use Rattle.core_machine.specs.declared.point.Point.{Point}
 use Rattle.core_machine.specs.declared.point.Point.TheVariants as points
 use Rattle.core_machine.specs.declared.point.Polling.TheVariants as polling
+use Rattle.core_machine.specs.declared.point.Side.TheVariants as sides
 use Rattle.core_machine.specs.machine.Calls.{PlaysCall}
 use Rattle.core_machine.specs.machine.Machine.{State, seat_at, found_by, Steps, Begins, after_begin, state_after_due, state_after, state_after_all}
 use Rattle.core_machine.specs.Moves.{Move, move_at, is_last_birth, last_birth_move, birth_move, refusal_looks}
 use Rattle.heap_words.specs.Loaded.{head_of, array_length_of}
-use Rattle.core_machine.specs.seat.Access.{meta_reply_of, after_meta, after_get, after_old_load}
+use Rattle.core_machine.specs.seat.Access.{meta_reply_of, after_meta, after_get, after_old_load, after_replace}
+use Rattle.core_machine.specs.seat.AccessMoves.{old_word_of}
 use Rattle.core_machine.specs.seat.Handshake.{answer_next, polling_over}
 use Rattle.heap_model.specs.declared.behind.Behind.{Behind}
 use Rattle.core_machine.specs.declared.seat.looks.Looks.{Looks}
@@ -80,6 +82,10 @@ module _ (heap : Heap) (number : ℕ) (seat : Seat) (here : IsElsewhere seat.poi
   olds found None = same_on seat _ tt refl refl
   olds found (Some head) = same_on seat _ tt refl refl
 
+  compares : (same : Bool) → FindsOn seat (after_replace seat same)
+  compares true = over_on seat _ tt refl refl
+  compares false = over_on seat _ tt refl refl
+
   over : (command : Command) (answered : ℕ) → FindsOn seat (polling_over command (record seat { answered = answered }))
   over commands.Collect answered = same_on seat _ tt refl refl
   over _ answered = over_on seat _ tt refl refl
@@ -118,6 +124,9 @@ module _ (heap : Heap) (number : ℕ) (seat : Seat) (here : IsElsewhere seat.poi
   moves_on (points.Access ShadingOld) there = λ found. same_on seat _ tt refl refl
   moves_on (points.Access ShadingNew) there = λ found. same_on seat _ tt refl refl
   moves_on (points.Access Swapping) there = λ found. over_on seat _ tt refl refl
+  moves_on (points.Access (ShadingSide sides.Expected)) there = λ found. same_on seat _ tt refl refl
+  moves_on (points.Access (ShadingSide sides.New)) there = λ found. same_on seat _ tt refl refl
+  moves_on (points.Access Replacing) there = λ found. compares (found == old_word_of seat)
   moves_on (points.Polling polling.Asking) there = λ found. polls (found == seat.answered) found
   moves_on (points.Polling polling.Shading) there = λ found. same_on seat _ tt refl refl
   moves_on (points.Polling polling.Answering) there = λ found. over seat.command seat.asked

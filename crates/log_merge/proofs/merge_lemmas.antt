@@ -13,4 +13,5 @@ pub mod Places
 pub mod Rests
 pub mod Sound
 pub mod SoundChanges
+pub mod Touching
 pub mod Waiting

@@ -1,4 +1,4 @@
--- How many gets the logs still have.
+-- How many gets the logs still have, cas that left the cell among them.
 use Rattle.std.specs.Prelude.{ℕ, Bool, unwrap_or}
 use Rattle.std.specs.BTreeMap.{get}
 use Rattle.std.specs.declared.cmp.Ordering.{Ordering}

@@ -2,8 +2,8 @@
 use Rattle.std.specs.Prelude.{◌≡◌, ℕ, ◌+◌, ◌<◌, List, ◌++◌, length, count_by, sum_by, slice_index, Option, None}
 use Rattle.std.specs.List.{range_with_len}
 use Rattle.heap_model.specs.declared.heap.Heap.{Heap}
-use Rattle.heap_model.specs.declared.command.Command.TheVariants.{Get, Set}
-use Rattle.heap_model.specs.declared.reply.Reply.TheVariants.{Got, Was}
+use Rattle.heap_model.specs.declared.command.Command.TheVariants.{Get, Set, Cas}
+use Rattle.heap_model.specs.declared.reply.Reply.TheVariants.{Got, Was, Now}
 use Rattle.heap_model.specs.declared.entry.Entry.{Entry}
 use Rattle.heap_model.specs.declared.entry.Entry.TheVariants.{Said}
 use Rattle.heap_model.specs.Logs.{logs_of}
@@ -17,14 +17,16 @@ use Rattle.log_merge.specs.Merging.{part_of, left_of, IsNext, IsReady, TakesFirs
 use Rattle.log_merge.specs.PendingGets.{is_kind, pending_count}
 use Rattle.log_merge.specs.Registers.{kind_of, gets_in, registers_of}
 
--- the stamp that the entry replaces, and where, if it is a set that did
+-- the stamp that the entry replaces, and where, if it is a set or a cas that did
 abbrev pub replaced_by : Graph → Entry → Option PendingGet
 replaced_by g (Said seat (Set r i v) (Was stamp)) = kind_of (register_value g seat r) i stamp
+replaced_by g (Said seat (Cas r i a v) (Was stamp)) = kind_of (register_value g seat r) i stamp
 replaced_by g _ = None
 
--- the stamp that the entry gets, and where, if it is a get that found a cell
+-- the stamp that the entry gets, and where, if it is a get that found a cell, or a cas that left it
 abbrev pub got_by : Graph → Entry → Option PendingGet
 got_by g (Said seat (Get d r i) (Got value stamp)) = kind_of (register_value g seat r) i stamp
+got_by g (Said seat (Cas r i a v) (Now stamp)) = kind_of (register_value g seat r) i stamp
 got_by g _ = None
 
 -- how many gets of a kind the log still has

@@ -31,9 +31,10 @@ abbrev pub kind_of : Value → ℕ → ℕ → Option PendingGet
 kind_of (Object id) i stamp = Some (record { object = id; index = i; stamp = stamp })
 kind_of _ i stamp = None
 
--- the get that the entry is, if it is one that found a cell
+-- the get that the entry is, if it is one that found a cell, or a cas that left it
 abbrev pub get_of : List Value → Entry → Option PendingGet
 get_of held (Said seat (commands.Get d r i) (replies.Got value stamp)) = kind_of (slice_index_or held r Nil) i stamp
+get_of held (Said seat (commands.Cas r i a v) (replies.Now stamp)) = kind_of (slice_index_or held r Nil) i stamp
 get_of held _ = None
 
 -- the gets among the entries of a seat with these registers

@@ -11,9 +11,10 @@ use Rattle.core_machine.specs.calls.Replies.{StandsOn, IsFull}
 use Rattle.core_machine.specs.declared.step.SpineStep.TheVariants.{BudgetAdd}
 use Rattle.core_machine.specs.declared.step.Step.TheVariants.{Spine}
 use Rattle.core_machine.specs.machine.Calls.{KeepsOwn, IsPlaceRefusal}
+use Rattle.core_machine.specs.seat.Local.{local_reply_of}
 use Rattle.core_machine.specs.seat.Seat.{Seat}
 use Rattle.core_machine.proofs.call_lemmas.GoingOn.{holds_of_every_group}
-use Rattle.core_machine.proofs.call_lemmas.RepliesAlone.{refusal_leaves_registers}
+use Rattle.core_machine.proofs.call_lemmas.RepliesAlone.{refusal_leaves_registers, refusal_leaves_seen}
 use Rattle.core_machine.proofs.table_lemmas.Free.{claimed_group_has_none_clear}
 use Rattle.heap_table.specs.Made.{Made, FoundIn, IsSound}
 use Rattle.heap_table.specs.SeatHeld.{SeatHeld}
@@ -21,9 +22,10 @@ use Rattle.frag_claim.specs.Gathered.{IsClaimed, IsExhausted}
 use Rattle.mutator_seat.specs.Calls.{ToldIn, IsCauseOf, KeepsWhereRefused}
 
 -- a seat that keeps these keeps its own
-keeps_kept : (old new : Seat) (kept : Kept) → kept_of new ≡ kept → kept.registers ≡ old.registers → kept.reserve ≡ old.reserve → kept.cursor ≡ old.cursor → kept.made ≡ old.made → KeepsOwn old new
-keeps_kept old new kept is registers reserve cursor made = record {
+keeps_kept : (old new : Seat) (kept : Kept) → kept_of new ≡ kept → kept.registers ≡ old.registers → kept.seen ≡ old.seen → kept.reserve ≡ old.reserve → kept.cursor ≡ old.cursor → kept.made ≡ old.made → KeepsOwn old new
+keeps_kept old new kept is registers seen reserve cursor made = record {
   registers_stay = ap (λ (k : Kept). k.registers) is ∙ registers;
+  seen_stays = ap (λ (k : Kept). k.seen) is ∙ seen;
   reserve_stays = ap (λ (k : Kept). k.reserve) is ∙ reserve;
   cursor_stays = ap (λ (k : Kept). k.cursor) is ∙ cursor;
   made_stays = ap (λ (k : Kept). k.made) is ∙ made;
@@ -35,10 +37,11 @@ module _ (old new : SeatHeld) (command : Command) (made : List Made) (first : Li
 
   pub keeps_whole_where_refused : (reply : Reply) → Stands reply → KeepsWhereRefused old new reply
   keeps_whole_where_refused replies.NoObject is =
-      keeps_kept old.seat new.seat _ is.kept_is (refusal_leaves_registers old.seat.registers command (subst IsPlaceRefusal is.reply_is tt)) refl refl refl
-  keeps_whole_where_refused replies.NoField is = keeps_kept old.seat new.seat _ is.keeps refl refl refl refl
-  keeps_whole_where_refused (replies.Full need found) is = keeps_kept old.seat new.seat _ is.keeps refl refl refl refl
-  keeps_whole_where_refused (replies.SpineFull need used) is = keeps_kept old.seat new.seat _ is.keeps refl refl refl refl
+      let refused : IsPlaceRefusal (local_reply_of old.seat.registers command) = subst IsPlaceRefusal is.reply_is tt in
+      keeps_kept old.seat new.seat _ is.kept_is (refusal_leaves_registers old.seat.registers command refused) (refusal_leaves_seen old.seat.registers old.seat.seen command refused) refl refl refl
+  keeps_whole_where_refused replies.NoField is = keeps_kept old.seat new.seat _ is.keeps refl refl refl refl refl
+  keeps_whole_where_refused (replies.Full need found) is = keeps_kept old.seat new.seat _ is.keeps refl refl refl refl refl
+  keeps_whole_where_refused (replies.SpineFull need used) is = keeps_kept old.seat new.seat _ is.keeps refl refl refl refl refl
   keeps_whole_where_refused _ is = tt
 
   -- every group was claimed

@@ -41,6 +41,7 @@ number_left : (held : SeatHeld) (command : Command) → Rests held → HasNumber
 number_left held (commands.New d fields) rests has = omega (arith, rests.told.made, has)
 number_left held (commands.Array d cells) rests has = omega (arith, rests.told.made, has)
 number_left held (commands.Set r i v) rests has = omega (arith, rests.told.sets, has)
+number_left held (commands.Cas r i a v) rests has = omega (arith, rests.told.sets, has)
 number_left held (commands.Get d r i) rests has = tt
 number_left held (commands.Num d n) rests has = tt
 number_left held (commands.Nil d) rests has = tt

@@ -16,7 +16,7 @@ use Rattle.core_machine.specs.calls.Kept.{Kept, kept_of}
 use Rattle.core_machine.specs.calls.Replies.{StandsOn}
 use Rattle.core_machine.specs.declared.step.Step.{Step}
 use Rattle.core_machine.specs.machine.Calls.{IsBeside}
-use Rattle.core_machine.specs.seat.FitsAccess.{IsSet}
+use Rattle.core_machine.specs.seat.FitsAccess.{IsSet, IsCas}
 use Rattle.core_machine.specs.machine.Machine.{MayBegin}
 use Rattle.core_machine.specs.seat.Seat.{HasNumberLeft}
 use Rattle.core_rule.specs.told.Told.{IsAsTold}
@@ -25,14 +25,21 @@ use Rattle.heap_table.specs.SeatHeld.{SeatHeld}
 use Rattle.mutator_seat.specs.Calls.{ToldIn, MakesCall}
 use Rattle.mutator_seat.specs.Resting.{Rests}
 
+-- a command that may put a word into a field
+abbrev PutsWord : Command → Type 0
+PutsWord command = IsSet command ⊎ IsCas command
+
 module _ (tells : Step → ℕ → Type 0) (heap : Heap) (number : ℕ) (before kept : Kept) (first : List Entry) where
-  -- how often a seat was found behind, and the number of sets, which a set alone counts up
+  -- how often a seat was found behind, and the number of sets, which a set and a cas alone count up
   pub record CountsSo (command : Command) : Type 0 where
     pub waits : kept.looks.waits ≡ before.looks.waits
-    pub sets : (kept.sets ≡ before.sets) ⊎ (IsSet command × (kept.sets ≡ before.sets + 1))
+    pub sets : (kept.sets ≡ before.sets) ⊎ (PutsWord command × (kept.sets ≡ before.sets + 1))
 
   same_counts : (command : Command) (last : Kept) → kept ≡ last → last.looks.waits ≡ before.looks.waits → last.sets ≡ before.sets → CountsSo command
   same_counts command last is waits sets = record { waits = ap (λ (k : Kept). k.looks.waits) is ∙ waits; sets = inl (ap (λ (k : Kept). k.sets) is ∙ sets) }
+
+  one_more : (command : Command) (last : Kept) → kept ≡ last → PutsWord command → last.looks.waits ≡ before.looks.waits → last.sets ≡ before.sets + 1 → CountsSo command
+  one_more command last is puts waits sets = record { waits = ap (λ (k : Kept). k.looks.waits) is ∙ waits; sets = inr (puts, ap (λ (k : Kept). k.sets) is ∙ sets) }
 
   pub call_counts_so : (command : Command) (reply : Reply) → StandsOn tells heap number command before kept first reply → CountsSo command
   call_counts_so commands.Leave replies.Done is = same_counts commands.Leave _ is refl refl
@@ -46,7 +53,9 @@ module _ (tells : Step → ℕ → Type 0) (heap : Heap) (number : ℕ) (before 
         sets = inl (ap (λ (k : Kept). k.sets) is.kept_is ∙ ap (λ (k : Kept). k.sets) between);
       }
   call_counts_so command (replies.Got value stamp) is = same_counts command _ is.kept_is refl refl
-  call_counts_so command (replies.Was stamp) is = record { waits = ap (λ (k : Kept). k.looks.waits) is.kept_is; sets = inr (is.a_set, ap (λ (k : Kept). k.sets) is.kept_is) }
+  call_counts_so command (replies.Was stamp) (inl is) = one_more command _ is.kept_is (inl is.a_set) refl refl
+  call_counts_so command (replies.Was stamp) (inr is) = one_more command _ is.kept_is (inr is.compared.a_cas) refl refl
+  call_counts_so command (replies.Now stamp) is = same_counts command _ is.keeps refl refl
   call_counts_so command (replies.Length n) is = same_counts command _ is.keeps refl refl
   call_counts_so command (replies.Phase p) is = same_counts command _ is.kept_is refl refl
   call_counts_so command (replies.Cycle j) is = absurd is
@@ -56,10 +65,12 @@ module _ (tells : Step → ℕ → Type 0) (heap : Heap) (number : ℕ) (before 
   call_counts_so command (replies.Full need found) is = same_counts command _ is.keeps refl refl
   call_counts_so command (replies.SpineFull need used) is = same_counts command _ is.keeps refl refl
 
--- a set that may be begun has a stamp left
-stamp_left : (made sets : ℕ) (command : Command) → IsSet command → HasNumberLeft made sets command → sets + 1 < stamp_limit
-stamp_left made sets (commands.Set r i v) a_set left = left
-stamp_left made sets _ a_set left = absurd a_set
+-- one that may be begun has a stamp left
+stamp_left : (made sets : ℕ) (command : Command) → PutsWord command → HasNumberLeft made sets command → sets + 1 < stamp_limit
+stamp_left made sets (commands.Set r i v) puts left = left
+stamp_left made sets (commands.Cas r i a v) puts left = left
+stamp_left made sets _ (inl a_set) left = absurd a_set
+stamp_left made sets _ (inr a_cas) left = absurd a_cas
 
 -- entries that tell no reply are the seat's own
 beside_own : (number : ℕ) (entry : Entry) → IsBeside number entry → IsOwn number entry

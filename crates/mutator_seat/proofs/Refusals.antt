@@ -32,7 +32,7 @@ use Rattle.core_rule.specs.graph.Registers.{IsAwaited}
 use Rattle.core_rule.proofs.graph.SameValues.{same_value_test_tells}
 use Rattle.heap_table.specs.SeatHeld.{SeatHeld}
 use Rattle.mutator_seat.specs.Calls.{ToldIn, MakesCall}
-use Rattle.mutator_seat.specs.Replies.{AnswersGet, AnswersSet, IsReplyTo}
+use Rattle.mutator_seat.specs.Replies.{AnswersGet, AnswersSet, IsReplyTo, AnswersCas}
 use Rattle.mutator_seat.specs.Resting.{seat_state, Rests}
 use Rattle.mutator_seat.proofs.Replied.{reply_is_to_command}
 
@@ -100,6 +100,7 @@ reached_within tells command before object reached part meta (inr way) = let is 
 abbrev AnswersField : Reply → Type 0
 AnswersField (replies.Got value stamp) = Unit {0}
 AnswersField (replies.Was stamp) = Unit {0}
+AnswersField (replies.Now stamp) = Unit {0}
 AnswersField replies.NoObject = Unit {0}
 AnswersField replies.NoField = Unit {0}
 AnswersField _ = ⊥
@@ -116,9 +117,17 @@ set_field replies.NoObject answers = tt
 set_field replies.NoField answers = tt
 set_field _ answers = absurd answers
 
+cas_field : (reply : Reply) → AnswersCas reply → AnswersField reply
+cas_field (replies.Was stamp) answers = tt
+cas_field (replies.Now stamp) answers = tt
+cas_field replies.NoObject answers = tt
+cas_field replies.NoField answers = tt
+cas_field _ answers = absurd answers
+
 field_answers : (command : Command) (reply : Reply) → NamesField command → IsReplyTo command reply → AnswersField reply
 field_answers (commands.Get d r i) reply names is = get_field reply is
 field_answers (commands.Set r i v) reply names is = set_field reply is
+field_answers (commands.Cas r i a v) reply names is = cas_field reply is
 field_answers _ reply names is = absurd names
 
 module _ (old new : SeatHeld) (command : Command) (reply : Reply) (call : MakesCall old new command reply) (names : NamesObject command) (field : NamesField command) where
@@ -134,7 +143,9 @@ module _ (old new : SeatHeld) (command : Command) (reply : Reply) (call : MakesC
   within_end : (object : Node) → ((head meta : ℕ) → HasOpened tells command (kept_of old.seat) head meta → IsMetaOf object meta) → (reply ≡ replies.NoObject → ⊥) → length object.cells ≤ field_of command
       → (r : Reply) → reply ≡ r → StandsOn tells old.heap old.number command (kept_of old.seat) (kept_of new.seat) call.first r → AnswersField r → r ≡ replies.NoField
   within_end object meta some past (replies.Got value stamp) is stands answers = absurd (omega (arith, past, reached_within tells command (kept_of old.seat) object stands.reached stands.part meta stands.field))
-  within_end object meta some past (replies.Was stamp) is stands answers = absurd (omega (arith, past, reached_within tells command (kept_of old.seat) object stands.reached stands.part meta stands.field))
+  within_end object meta some past (replies.Was stamp) is (inl stands) answers = absurd (omega (arith, past, reached_within tells command (kept_of old.seat) object stands.reached stands.part meta stands.field))
+  within_end object meta some past (replies.Was stamp) is (inr stands) answers = absurd (omega (arith, past, reached_within tells command (kept_of old.seat) object stands.compared.reached stands.compared.part meta stands.compared.field))
+  within_end object meta some past (replies.Now stamp) is stands answers = absurd (omega (arith, past, reached_within tells command (kept_of old.seat) object stands.compared.reached stands.compared.part meta stands.compared.field))
   within_end object meta some past replies.NoObject is stands answers = absurd (some is)
   within_end object meta some past replies.NoField is stands answers = refl
   within_end object meta some past _ is stands answers = absurd answers

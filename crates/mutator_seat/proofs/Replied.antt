@@ -1,5 +1,5 @@
 -- Which replies a call can have.
-use Rattle.std.proofs.Common.{◌≡◌, ℕ, Bool, true, false, List, refl, sym, subst}
+use Rattle.std.proofs.Common.{◌≡◌, ℕ, Bool, true, false, List, refl, sym, subst, inl, inr}
 use Rattle.heap_model.specs.declared.command.Command.{Command}
 use Rattle.heap_model.specs.declared.command.Command.TheVariants as commands
 use Rattle.heap_model.specs.declared.entry.Entry.{Entry}
@@ -10,13 +10,13 @@ use Rattle.core_machine.specs.calls.Kept.{Kept, kept_of}
 use Rattle.core_machine.specs.calls.Replies.{AnswersLocally, IsDoneBy, StandsOn}
 use Rattle.core_machine.specs.declared.step.Step.{Step}
 use Rattle.core_machine.specs.seat.Commands.{MakesObject, IsArrayCall}
-use Rattle.core_machine.specs.seat.FitsAccess.{IsGet, IsSet, NamesField}
+use Rattle.core_machine.specs.seat.FitsAccess.{IsGet, IsSet, IsCas, NamesField}
 use Rattle.core_machine.specs.seat.FitsHandshake.{IsLocal}
 use Rattle.core_machine.specs.seat.Local.{answer_of, local_reply_of}
 use Rattle.core_machine.specs.seat.Registers.{register_in, value_of, is_same_value}
 use Rattle.heap_table.specs.SeatHeld.{SeatHeld}
 use Rattle.mutator_seat.specs.Calls.{ToldIn, MakesCall}
-use Rattle.mutator_seat.specs.Replies.{AnswersRecord, AnswersArray, AnswersGet, AnswersSet, AnswersSame, IsDone, IsReplyTo}
+use Rattle.mutator_seat.specs.Replies.{AnswersRecord, AnswersArray, AnswersGet, AnswersSet, AnswersCas, AnswersSame, IsDone, IsReplyTo}
 
 -- one that looks at no word
 answers_same : (b : Bool) → AnswersSame (answer_of b)
@@ -31,6 +31,7 @@ local_reply command before kept reply is = subst (IsReplyTo command) (sym is.rep
     by (commands.Array d cells) local = absurd local
     by (commands.Get d r i) local = tt
     by (commands.Set r i v) local = tt
+    by (commands.Cas r i a v) local = tt
     by (commands.Num d n) local = tt
     by (commands.Nil d) local = tt
     by (commands.Copy d r) local = tt
@@ -61,9 +62,14 @@ set_reply : (command : Command) (reply : Reply) → IsSet command → AnswersSet
 set_reply (commands.Set r i v) reply a_set answers = answers
 set_reply _ reply a_set answers = absurd a_set
 
+cas_reply : (command : Command) (reply : Reply) → IsCas command → AnswersCas reply → IsReplyTo command reply
+cas_reply (commands.Cas r i a v) reply a_cas answers = answers
+cas_reply _ reply a_cas answers = absurd a_cas
+
 field_reply : (command : Command) → NamesField command → IsReplyTo command replies.NoField
 field_reply (commands.Get d r i) names = tt
 field_reply (commands.Set r i v) names = tt
+field_reply (commands.Cas r i a v) names = tt
 field_reply _ names = absurd names
 
 pub reply_is_to_command : (tells : Step → ℕ → Type 0) (heap : Heap) (number : ℕ) (command : Command) (before kept : Kept) (first : List Entry) (reply : Reply)
@@ -73,7 +79,9 @@ reply_is_to_command tells heap number command before kept first replies.Yes is =
 reply_is_to_command tells heap number command before kept first replies.No is = local_reply command before kept replies.No is
 reply_is_to_command tells heap number command before kept first (replies.Made id) is = made_reply command (replies.Made id) is.an_object tt tt
 reply_is_to_command tells heap number command before kept first (replies.Got value stamp) is = get_reply command (replies.Got value stamp) is.a_get tt
-reply_is_to_command tells heap number command before kept first (replies.Was stamp) is = set_reply command (replies.Was stamp) is.a_set tt
+reply_is_to_command tells heap number command before kept first (replies.Was stamp) (inl is) = set_reply command (replies.Was stamp) is.a_set tt
+reply_is_to_command tells heap number command before kept first (replies.Was stamp) (inr is) = cas_reply command (replies.Was stamp) is.compared.a_cas tt
+reply_is_to_command tells heap number command before kept first (replies.Now stamp) is = cas_reply command (replies.Now stamp) is.compared.a_cas tt
 reply_is_to_command tells heap number command before kept first (replies.Length n) is = subst (λ (c : Command). IsReplyTo c (replies.Length n)) (sym is.a_len) tt
 reply_is_to_command tells heap number command before kept first (replies.Phase p) is = subst (λ (c : Command). IsReplyTo c (replies.Phase p)) (sym is.a_poll) tt
 reply_is_to_command tells heap number command before kept first (replies.Cycle j) is = absurd is

@@ -90,6 +90,8 @@ module _ (heap : Heap) (number : ℕ) (old : Seat) where
     access_since access.ShadingOld stage = λ t. t
     access_since access.ShadingNew stage = λ t. t
     access_since access.Swapping stage = λ t. t
+    access_since (access.ShadingSide side) stage = λ t. t
+    access_since access.Replacing stage = λ t. t
 
     polling_since : (point : Polling) → PointGoesOn (points.Polling point)
     polling_since polling.Asking stage = phase_since seat found (ap (λ (k : Kept). k.answered) stage.1.kept_stays)

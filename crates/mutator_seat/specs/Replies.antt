@@ -2,7 +2,7 @@
 use Rattle.heap_model.specs.declared.command.Command.{Command}
 use Rattle.heap_model.specs.declared.command.Command.TheVariants as commands
 use Rattle.heap_model.specs.declared.reply.Reply.{Reply}
-use Rattle.heap_model.specs.declared.reply.Reply.TheVariants.{Made, Got, Was, Done, Yes, No, Length, Phase, NoObject, NoField, Full, SpineFull}
+use Rattle.heap_model.specs.declared.reply.Reply.TheVariants.{Made, Got, Was, Now, Done, Yes, No, Length, Phase, NoObject, NoField, Full, SpineFull}
 
 -- the reply tells a phase
 abbrev pub TellsPhase : Reply → Type 0
@@ -36,6 +36,14 @@ AnswersSet NoObject = Unit {0}
 AnswersSet NoField = Unit {0}
 AnswersSet _ = ⊥
 
+-- a field was swapped, or had another word, or wasn't reached
+abbrev pub AnswersCas : Reply → Type 0
+AnswersCas (Was stamp) = Unit {0}
+AnswersCas (Now stamp) = Unit {0}
+AnswersCas NoObject = Unit {0}
+AnswersCas NoField = Unit {0}
+AnswersCas _ = ⊥
+
 -- two values were compared
 abbrev pub AnswersSame : Reply → Type 0
 AnswersSame Yes = Unit {0}
@@ -59,6 +67,7 @@ IsReplyTo (commands.New d fields) reply = AnswersRecord reply
 IsReplyTo (commands.Array d cells) reply = AnswersArray reply
 IsReplyTo (commands.Get d r i) reply = AnswersGet reply
 IsReplyTo (commands.Set r i v) reply = AnswersSet reply
+IsReplyTo (commands.Cas r i a v) reply = AnswersCas reply
 IsReplyTo (commands.Num d n) reply = IsDone reply
 IsReplyTo (commands.Nil d) reply = IsDone reply
 IsReplyTo (commands.Copy d r) reply = IsDone reply

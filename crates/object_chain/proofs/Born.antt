@@ -1,5 +1,5 @@
 -- What the storing and bearing of a record comes to, by whatever steps it was made.
-use Rattle.std.proofs.Common.{◌≡◌, ℕ, ◌+◌, ◌*◌, ◌≤◌, List, [], ◌∷◌, ◌++◌, length, refl, sym, ap, subst, ◌∙◌, length-append, arith}
+use Rattle.std.proofs.Common.{◌≡◌, ℕ, ◌+◌, ◌*◌, ◌≤◌, List, [], ◌∷◌, ◌++◌, length, refl, sym, ap, subst, ◌∙◌, length-append, arith, inl, inr}
 use Rattle.heap_model.specs.Needs.{need_of}
 use Rattle.heap_model.specs.declared.command.Command.TheVariants.{New}
 use Rattle.heap_model.specs.declared.entry.Entry.{Entry}
@@ -29,7 +29,9 @@ made_of : (tells : Step → ℕ → Type 0) (heap : Heap) (number d fields : ℕ
     → StandsOn tells heap number (New d fields) before kept first reply → (id : Id) × (reply ≡ replies.Made id) × IsMade tells heap number (New d fields) before kept first id
 made_of tells heap number d fields before kept first (replies.Made id) enough stands = (id, refl, stands)
 made_of tells heap number d fields before kept first (replies.Got value stamp) enough stands = absurd stands.a_get
-made_of tells heap number d fields before kept first (replies.Was stamp) enough stands = absurd stands.a_set
+made_of tells heap number d fields before kept first (replies.Was stamp) enough (inl stands) = absurd stands.a_set
+made_of tells heap number d fields before kept first (replies.Was stamp) enough (inr stands) = absurd stands.compared.a_cas
+made_of tells heap number d fields before kept first (replies.Now stamp) enough stands = absurd stands.compared.a_cas
 made_of tells heap number d fields before kept first replies.Done enough stands = absurd stands.local
 made_of tells heap number d fields before kept first replies.Yes enough stands = absurd stands.local
 made_of tells heap number d fields before kept first replies.No enough stands = absurd stands.local

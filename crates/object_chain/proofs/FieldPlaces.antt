@@ -1,6 +1,6 @@
 -- Where a call has come to its field, the field of its object stands by some book.
 use Rattle.std.proofs.Common.{◌≡◌, ℕ, Some, refl, sym, ap, ◌∙◌, subst}
-use Rattle.core_machine.specs.declared.point.Access.TheVariants.{LoadingMeta, Getting, LoadingOld, Swapping}
+use Rattle.core_machine.specs.declared.point.Access.TheVariants.{LoadingMeta, Getting, LoadingOld, Swapping, ShadingSide, Replacing}
 use Rattle.core_machine.specs.declared.point.Point.{Point}
 use Rattle.core_machine.specs.declared.point.Point.TheVariants as points
 use Rattle.core_machine.specs.machine.Machine.{State, seat_at}
@@ -51,6 +51,8 @@ module _ (held : SeatHeld) (head : ℕ) (holds : HoldsHead held.seat head) where
   at_point (points.Access Getting) at reached = of_book reached.state reached.book reached.stands reached.here reached.reaches
   at_point (points.Access LoadingOld) at reached = of_book reached.state reached.book reached.stands reached.here reached.reaches
   at_point (points.Access Swapping) at reached = of_book reached.state reached.book reached.stands reached.here reached.reaches
+  at_point (points.Access (ShadingSide side)) at reached = of_book reached.state reached.book reached.stands reached.here reached.reaches
+  at_point (points.Access Replacing) at reached = of_book reached.state reached.book reached.stands reached.here reached.reaches
   at_point _ at reached = absurd at
 
   -- at a field the place that the seat has reached is the field's

@@ -11,7 +11,7 @@ use Rattle.heap_model.specs.declared.heap.Heap.{Heap}
 use Rattle.heap_model.specs.declared.reply.Reply.{Reply}
 use Rattle.core_machine.specs.Moves.{Move, move_at, due_step, seat_after_due}
 use Rattle.core_machine.specs.calls.Reaching.{LeadsTo}
-use Rattle.core_machine.specs.declared.point.Access.TheVariants.{Walking, Getting, LoadingOld, Swapping}
+use Rattle.core_machine.specs.declared.point.Access.TheVariants.{Walking, Getting, LoadingOld, Swapping, ShadingSide, Replacing}
 use Rattle.core_machine.specs.declared.point.Point.{Point}
 use Rattle.core_machine.specs.declared.point.Point.TheVariants as points
 use Rattle.core_machine.specs.declared.step.AccessStep.TheVariants.{WalkLoad}
@@ -49,6 +49,8 @@ WayAt tells head rows links reached (points.Access Walking) = (passed : ℕ) × 
 WayAt tells head rows links reached (points.Access Getting) = LeadsTo tells rows head reached
 WayAt tells head rows links reached (points.Access LoadingOld) = LeadsTo tells rows head reached
 WayAt tells head rows links reached (points.Access Swapping) = LeadsTo tells rows head reached
+WayAt tells head rows links reached (points.Access (ShadingSide side)) = LeadsTo tells rows head reached
+WayAt tells head rows links reached (points.Access Replacing) = LeadsTo tells rows head reached
 WayAt tells head rows links reached _ = ⊥
 
 way_by : (few more : Step → ℕ → Type 0) (head rows links reached : ℕ) (point : Point) → ((step : Step) (word : ℕ) → few step word → more step word) → WayAt few head rows links reached point → WayAt more head rows links reached point
@@ -56,6 +58,8 @@ way_by few more head rows links reached (points.Access Walking) on way = (way.0,
 way_by few more head rows links reached (points.Access Getting) on way = leads_by few more rows head reached on way
 way_by few more head rows links reached (points.Access LoadingOld) on way = leads_by few more rows head reached on way
 way_by few more head rows links reached (points.Access Swapping) on way = leads_by few more rows head reached on way
+way_by few more head rows links reached (points.Access (ShadingSide side)) on way = leads_by few more rows head reached on way
+way_by few more head rows links reached (points.Access Replacing) on way = leads_by few more rows head reached on way
 way_by few more head rows links reached _ on way = absurd way
 
 module _ (tells : Step → ℕ → Type 0) (head rows : ℕ) where
@@ -65,7 +69,7 @@ module _ (tells : Step → ℕ → Type 0) (head rows : ℕ) where
 
   -- where no link is left it is at the field
   at_field : (seat : Seat) → LeadsTo tells rows head seat.reached → WayOf (at_access seat (field_point_of seat seat.command))
-  at_field seat leads = field_point_cases (λ a. WayAt tells head rows seat.links seat.reached (points.Access a)) seat seat.command leads (λ on. leads) (λ off. leads)
+  at_field seat leads = field_point_cases (λ a. WayAt tells head rows seat.links seat.reached (points.Access a)) seat seat.command leads (λ on. leads) (λ off. leads) (λ on some. leads) (λ on none some. leads) (λ none. leads)
 
   on_way : (seat : Seat) → (passed : ℕ) → passed + seat.links ≡ rows → LeadsTo tells passed head seat.reached → WayAt tells head rows seat.links seat.reached (points.Access (way_point_of seat))
   on_way seat passed all leads =
@@ -104,6 +108,7 @@ holds_on old new head same holds =
 none_refused : (command : Command) (word : ℕ) → NamesField command → field_of command < length_of word → meta_reply_of command word ≡ None
 none_refused (commands.Get d r i) word names within = elim (leb_tells (suc i) (length_of word)) as (λ _. meta_reply_of (commands.Get d r i) word ≡ None) [ inl yes_ ↦ rw yes_.0 refl | inr past ↦ absurd (omega (arith, past.1, within)) ]
 none_refused (commands.Set r i v) word names within = elim (leb_tells (suc i) (length_of word)) as (λ _. meta_reply_of (commands.Set r i v) word ≡ None) [ inl yes_ ↦ rw yes_.0 refl | inr past ↦ absurd (omega (arith, past.1, within)) ]
+none_refused (commands.Cas r i a v) word names within = elim (leb_tells (suc i) (length_of word)) as (λ _. meta_reply_of (commands.Cas r i a v) word ≡ None) [ inl yes_ ↦ rw yes_.0 refl | inr past ↦ absurd (omega (arith, past.1, within)) ]
 none_refused _ word names within = absurd names
 
 -- while the way goes on
@@ -205,6 +210,8 @@ module _ (head : ℕ) (meta : Meta) (field : ℕ) (first held : SeatHeld) (while
   ends_at (points.Access Getting) is way = (way, tt)
   ends_at (points.Access LoadingOld) is way = (way, tt)
   ends_at (points.Access Swapping) is way = (way, tt)
+  ends_at (points.Access (ShadingSide side)) is way = (way, tt)
+  ends_at (points.Access Replacing) is way = (way, tt)
   ends_at _ is way = absurd way
 
   pub walk_leads_to_field : LeadsTo (HasFound while.made head meta) (row_of field) head held.seat.reached × IsAtField held.seat.point

@@ -2,7 +2,7 @@
 use Rattle.std.specs.Prelude.{◌≡◌, ℕ, ◌<◌, ◌⊎◌, List, None}
 use Rattle.heap_words.specs.Loaded.{link_of, length_of, array_length_of}
 use Rattle.heap_words.specs.declared.meta.Meta.{Meta}
-use Rattle.core_machine.specs.declared.point.Access.TheVariants.{LoadingMeta, Getting, LoadingOld, Swapping}
+use Rattle.core_machine.specs.declared.point.Access.TheVariants.{LoadingMeta, Getting, LoadingOld, Swapping, ShadingSide, Replacing}
 use Rattle.core_machine.specs.declared.point.Point.{Point}
 use Rattle.core_machine.specs.declared.point.Point.TheVariants as points
 use Rattle.core_machine.specs.declared.step.AccessStep.TheVariants.{WalkLoad}
@@ -39,9 +39,11 @@ pub record BeginsWalking (held : SeatHeld) (head : ℕ) (meta : Meta) (field : �
 abbrev pub HasFound : List Made → ℕ → Meta → Step → ℕ → Type 0
 HasFound made head meta step word = FoundIn made step word ⊎ ((step ≡ Access (WalkLoad head)) × TellsMeta word meta)
 
--- the seat is at the field: it is about to load it, or to swap its word
+-- the seat is at the field: it is about to load it, to swap its word or to compare it, which a shade may come before
 abbrev pub IsAtField : Point → Type 0
 IsAtField (points.Access Getting) = Unit {0}
 IsAtField (points.Access LoadingOld) = Unit {0}
 IsAtField (points.Access Swapping) = Unit {0}
+IsAtField (points.Access (ShadingSide side)) = Unit {0}
+IsAtField (points.Access Replacing) = Unit {0}
 IsAtField _ = ⊥

@@ -37,6 +37,7 @@ seats_after_reply g number (commands.New d fields) (replies.Made id) = length-se
 seats_after_reply g number (commands.Array d cells) (replies.Made id) = length-set g.seats number _
 seats_after_reply g number (commands.Get d r i) (replies.Got value stamp) = length-set g.seats number _
 seats_after_reply g number (commands.Set r i v) (replies.Was stamp) = seats_after_write (count_set g number) _ i _ ∙ length-set g.seats number _
+seats_after_reply g number (commands.Cas r i a v) (replies.Was stamp) = seats_after_write (count_set g number) _ i _ ∙ length-set g.seats number _
 seats_after_reply g number (commands.Num d n) reply = length-set g.seats number _
 seats_after_reply g number (commands.Nil d) reply = length-set g.seats number _
 seats_after_reply g number (commands.Copy d r) reply = length-set g.seats number _

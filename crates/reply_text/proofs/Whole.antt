@@ -1,8 +1,9 @@
 -- A text that is a history has no fault, is no other history, and is what is written of it.
-use Rattle.std.proofs.Common.{◌≡◌, ℕ, ◌+◌, ◌≤◌, List, ◌∷◌, Option, Some, None, Result, Ok, Err, IfOk, IfErr, codes, length, map, refl, sym, ap, ◌∙◌, subst, arith}
+use Rattle.std.proofs.Common.{◌≡◌, ℕ, ◌+◌, ◌≤◌, List, ◌∷◌, Option, Some, None, Result, Ok, Err, IfOk, IfErr, [], codes, length, map, refl, sym, ap, ◌∙◌, subst, arith}
 use Rattle.std.specs.List.{AllByRecursion}
 use Rattle.std.proofs.lemmas.List.{length-map}
 use Rattle.heap_model.specs.declared.entry.Entry.{Entry}
+use Rattle.heap_model.specs.declared.entry.Entry.TheVariants as entries
 use Rattle.heap_model.specs.declared.heap.Heap.{Heap}
 use Rattle.script_text.specs.declared.cause.ScriptFault.{ScriptFault}
 use Rattle.script_text.specs.declared.cause.ScriptFault.TheVariants as faults
@@ -24,6 +25,8 @@ use Rattle.reply_text.specs.read.Reading.{GivesOnlyHistory}
 use Rattle.reply_text.specs.History.{IsHistory, IsSpellable, body, form_line, history_lines, too_many}
 use Rattle.reply_text.specs.write.Lines.{IsHistoryLine, history_line}
 use Rattle.reply_text.specs.read.LineWords.{line_of}
+use Rattle.reply_text.specs.Written.{HasText, IsWritten}
+use Rattle.reply_text.proofs.read_lemmas.CommandReading.{answered_command_is_spelled}
 use Rattle.reply_text.proofs.read_lemmas.LinesReread.{body_is_history_lines, follow-body, history_lines-above, lines_fault-none}
 use Rattle.reply_text.proofs.read_lemmas.Told.{end_in, end_in-body, entries_in, entries_in-body, lines-from_texts, mark_in, mark_in-body, values_in}
 
@@ -38,6 +41,19 @@ form_line-above Run = IsAbove-from_test 31 (codes "history 1 run") refl
 -- each line after the heap line is one that the history may have
 lines_of-body : (history : History) → IsSpellable history → AllByRecursion (IsHistoryLine history.form history.heap.seats) (body history)
 lines_of-body history h = body_is_history_lines history.form history.heap.seats (length history.entries) history.mark history.entries history.end_used h.entries h.mark h.end_used
+
+-- its entries may stand in a text
+written_entry_has_text : (form : Form) (seats : ℕ) (entry : Entry) → IsWritten form seats entry → HasText entry
+written_entry_has_text form seats (entries.Said seat command reply) is = answered_command_is_spelled command reply is.2
+written_entry_has_text form seats _ is = tt
+
+written_entries_have_text : (form : Form) (seats : ℕ) (told : List Entry) → AllByRecursion (IsWritten form seats) told → AllByRecursion HasText told
+written_entries_have_text form seats [] all = tt
+written_entries_have_text form seats (entry ∷ told) all = (written_entry_has_text form seats entry all.0, written_entries_have_text form seats told all.1)
+
+pub read_entries_have_text : (text : List ℕ) (result : Result History ScriptFault) → IfOk result (IsHistory text) → IfOk result (λ history. AllByRecursion HasText history.entries)
+read_entries_have_text text (Ok history) is = written_entries_have_text history.form history.heap.seats history.entries is.value.entries
+read_entries_have_text text (Err fault) is = tt
 
 -- a history has no fault
 pub first_history_fault-none : (text : List ℕ) (history : History) → IsHistory text history → first_history_fault text ≡ None

@@ -1,7 +1,7 @@
 -- The replies that each command can give.
 use Rattle.std.specs.Prelude.{◌≡◌, ◌<◌, ◌^◌}
 use Rattle.heap_model.specs.declared.command.Command.{Command}
-use Rattle.heap_model.specs.declared.command.Command.TheVariants.{New, Array, Get, Set, Num, Nil, Copy, Same, Len, Poll, Collect, Leave}
+use Rattle.heap_model.specs.declared.command.Command.TheVariants.{New, Array, Get, Set, Cas, Num, Nil, Copy, Same, Len, Poll, Collect, Leave}
 use Rattle.heap_model.specs.declared.command.TurnCommand.{TurnCommand}
 use Rattle.heap_model.specs.declared.command.TurnCommand.TheVariants as commands
 use Rattle.heap_model.specs.declared.reply.Reply.{Reply}
@@ -60,12 +60,13 @@ IsCollecting (replies.Cycle j) = j < 2 ^ 64
 IsCollecting (replies.Waits seat answered phase) = IsWait seat answered phase
 IsCollecting _ = ⊥
 
--- a reply that the command can give
+-- a reply that the command can give in a text, which has no cas yet
 abbrev pub IsReply : Command → Reply → Type 0
 IsReply (New d fields) reply = IsMaking reply
 IsReply (Array d cells) reply = IsArraying reply
 IsReply (Get d r i) reply = IsGetting reply
 IsReply (Set r i v) reply = IsSetting reply
+IsReply (Cas r i a v) reply = ⊥
 IsReply (Num d n) reply = reply ≡ replies.Done
 IsReply (Nil d) reply = reply ≡ replies.Done
 IsReply (Copy d r) reply = reply ≡ replies.Done

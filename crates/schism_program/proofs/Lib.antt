@@ -2,5 +2,6 @@ pub mod FirstLines
 pub mod OneStatus
 pub mod SeatScripts
 pub mod RunHistories
+pub mod RunTexts
 pub mod Inputs
 pub mod TableRuns

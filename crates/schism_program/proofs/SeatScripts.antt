@@ -31,6 +31,7 @@ of_script (commands.New d fields) is = (is, λ same. cc)
 of_script (commands.Array d cells) is = (is, λ same. cc)
 of_script (commands.Get d r i) is = (is, λ same. cc)
 of_script (commands.Set r i v) is = (is, λ same. cc)
+of_script (commands.Cas r i a v) is = absurd is
 of_script (commands.Num d n) is = (is, λ same. cc)
 of_script (commands.Nil d) is = (is, λ same. cc)
 of_script (commands.Copy d r) is = (is, λ same. cc)

@@ -71,6 +71,11 @@ pub record IsOfTable (history : History) (closed : ClosedTable) : Type 0 where
   pub logs_are : closed.logs ≡ logs_of history.heap history.entries
   pub unused : EndsUnused closed
 
+-- the history tells a run of the script, without a lock, on the table that was closed
+pub record TellsTable (script : Script) (history : History) (closed : ClosedTable) : Type 0 where
+  pub ran : IsRunOf false script history
+  pub tabled : IsOfTable history closed
+
 -- the text tells a run of the input's script, without a lock, on the table that was closed
 pub record RunsOnTable (input text : List ℕ) (closed : ClosedTable) : Type 0 where
   pub script : Script

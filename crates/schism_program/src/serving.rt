@@ -1,10 +1,12 @@
 ghost use Rattle.std.specs.Prelude.{◌≡◌, ℕ, None, Err, IfOk, IsSome, is_some};
+ghost use Rattle.std.specs.List.{AllByRecursion};
 ghost use Rattle.form_words.specs.Works.{IsWork, MayBeMade};
 ghost use Rattle.script_text.specs.declared.cause.LineFault.{LineFault as ALineFault};
 ghost use Rattle.script_text.specs.declared.script.Form.TheVariants.{Play};
 ghost use Rattle.script_text.specs.Grammar.{IsScript};
 ghost use Rattle.script_text.specs.Writing.{IsOfForm};
 ghost use Rattle.script_text.specs.Text.{text_of};
+ghost use Rattle.reply_text.specs.Written.{HasText};
 ghost use Rattle.schism_program.specs.Serving.{told_lines, FailsAsScript, IsMadeText, IsPlayBy, Plays};
 ghost use Rattle.schism_program.specs.Works.{FailsAt, IsIllegalAt, LeavesTable, MakesText};
 
@@ -40,6 +42,7 @@ pub fn script_of(alloc: Global, input: &[u8], form: Form) -> Result<Script, Work
 fn told_text(alloc: Global, history: &History, brief: bool) -> Result<Vec<u8>, Memory>
     requires play { history.now.form ≡ Play }
     requires marked { IsSome history.now.mark }
+    requires spelled { AllByRecursion HasText history.now.entries }
     ensures { IfOk result (λ text. text.items ≡ text_of (told_lines brief history.now)) }
 {
     if brief {
@@ -60,6 +63,7 @@ fn played(
     ensures played { IfOk result (IsPlayBy press (is_some pace) script.now) }
     ensures play { IfOk result (λ history. history.form ≡ Play) }
     ensures marked { IfOk result (λ history. IsSome history.mark) }
+    ensures spelled { IfOk result (λ history. AllByRecursion HasText history.entries) }
 {
     let whole = MachineHeap::make(alloc, script.heap)?;
     if press {

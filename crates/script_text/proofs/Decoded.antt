@@ -4,7 +4,7 @@ use Rattle.std.specs.Map.{lookup}
 use Rattle.std.specs.Str.Parse.{digits_value}
 use Rattle.std.proofs.lemmas.Fmt.{decimal_is_IsNumeral}
 use Rattle.heap_model.specs.declared.command.Command.{Command}
-use Rattle.heap_model.specs.declared.command.Command.TheVariants.{New, Array, Get, Set, Num, Nil, Copy, Same, Len, Poll, Collect, Leave}
+use Rattle.heap_model.specs.declared.command.Command.TheVariants.{New, Array, Get, Set, Cas, Num, Nil, Copy, Same, Len, Poll, Collect, Leave}
 use Rattle.heap_model.specs.declared.command.TurnCommand.{TurnCommand}
 use Rattle.heap_model.specs.declared.command.TurnCommand.TheVariants as turns
 use Rattle.script_text.specs.declared.script.Form.{Form}
@@ -32,6 +32,7 @@ command_of-words (New d fields) h = rw (value-decimal d (omega arith), value-dec
 command_of-words (Array d cells) h = rw (value-decimal d (omega arith), value-decimal cells (omega arith)) refl
 command_of-words (Get d r i) h = rw (value-decimal d (omega arith), value-decimal r (omega arith), value-decimal i (omega arith)) refl
 command_of-words (Set r i v) h = rw (value-decimal r (omega arith), value-decimal i (omega arith), value-decimal v (omega arith)) refl
+command_of-words (Cas r i a v) h = absurd h
 command_of-words (Num d n) h = rw (value-decimal d (omega arith), value-decimal n (omega arith)) refl
 command_of-words (Nil d) h = rw (value-decimal d (omega arith)) refl
 command_of-words (Copy d r) h = rw (value-decimal d (omega arith), value-decimal r (omega arith)) refl

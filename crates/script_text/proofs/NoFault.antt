@@ -7,7 +7,7 @@ use Rattle.heap_model.specs.Limits.{most_groups, most_spine, most_seats}
 use Rattle.heap_model.specs.Heap.{IsHeap}
 use Rattle.heap_model.specs.Command.{IsWithin, IsTarget, IsRegister, IsIndex}
 use Rattle.heap_model.specs.declared.command.Command.{Command}
-use Rattle.heap_model.specs.declared.command.Command.TheVariants.{New, Array, Get, Set, Num, Nil, Copy, Same, Len, Poll, Collect, Leave}
+use Rattle.heap_model.specs.declared.command.Command.TheVariants.{New, Array, Get, Set, Cas, Num, Nil, Copy, Same, Len, Poll, Collect, Leave}
 use Rattle.heap_model.specs.declared.command.TurnCommand.{TurnCommand}
 use Rattle.heap_model.specs.declared.command.TurnCommand.TheVariants as turns
 use Rattle.script_text.specs.declared.script.Form.{Form}
@@ -44,6 +44,7 @@ command_fault-none (New d fields) h = rw (target-decimal d _ h.0, operand-decima
 command_fault-none (Array d cells) h = rw (target-decimal d _ h.0, operand-decimal 1 4096 cells _ (omega arith) h.1) refl
 command_fault-none (Get d r i) h = rw (target-decimal d _ h.0, register-decimal r _ h.1, index-decimal i _ h.2) refl
 command_fault-none (Set r i v) h = rw (register-decimal r _ h.0, index-decimal i _ h.1, register-decimal v _ h.2) refl
+command_fault-none (Cas r i a v) h = absurd h
 command_fault-none (Num d n) h = rw (target-decimal d _ h.0, operand-decimal 0 1073741823 n _ (omega arith) (omega arith, omega (arith, h.1))) refl
 command_fault-none (Nil d) h = rw (target-decimal d _ h) refl
 command_fault-none (Copy d r) h = rw (target-decimal d _ h.0, register-decimal r _ h.1) refl

@@ -4,7 +4,7 @@ use Rattle.std.specs.List.{AllByRecursion}
 use Rattle.heap_model.specs.declared.heap.Heap.{Heap}
 use Rattle.heap_model.specs.Heap.{IsHeap}
 use Rattle.heap_model.specs.declared.command.Command.{Command}
-use Rattle.heap_model.specs.declared.command.Command.TheVariants.{New, Array, Get, Set, Num, Nil, Copy, Same, Len, Poll, Collect, Leave}
+use Rattle.heap_model.specs.declared.command.Command.TheVariants.{New, Array, Get, Set, Cas, Num, Nil, Copy, Same, Len, Poll, Collect, Leave}
 use Rattle.heap_model.specs.declared.command.TurnCommand.{TurnCommand}
 use Rattle.heap_model.specs.declared.command.TurnCommand.TheVariants as turns
 use Rattle.script_text.specs.declared.script.Form.{Form}
@@ -21,6 +21,7 @@ command_words-above (New d fields) h = (IsAbove-from_test 32 (codes "new") refl,
 command_words-above (Array d cells) h = (IsAbove-from_test 32 (codes "array") refl, (IsAbove-decimal d (omega arith), (IsAbove-decimal cells (omega arith), tt)))
 command_words-above (Get d r i) h = (IsAbove-from_test 32 (codes "get") refl, (IsAbove-decimal d (omega arith), (IsAbove-decimal r (omega arith), (IsAbove-decimal i (omega arith), tt))))
 command_words-above (Set r i v) h = (IsAbove-from_test 32 (codes "set") refl, (IsAbove-decimal r (omega arith), (IsAbove-decimal i (omega arith), (IsAbove-decimal v (omega arith), tt))))
+command_words-above (Cas r i a v) h = absurd h
 command_words-above (Num d n) h = (IsAbove-from_test 32 (codes "num") refl, (IsAbove-decimal d (omega arith), (IsAbove-decimal n (omega arith), tt)))
 command_words-above (Nil d) h = (IsAbove-from_test 32 (codes "nil") refl, (IsAbove-decimal d (omega arith), tt))
 command_words-above (Copy d r) h = (IsAbove-from_test 32 (codes "copy") refl, (IsAbove-decimal d (omega arith), (IsAbove-decimal r (omega arith), tt)))

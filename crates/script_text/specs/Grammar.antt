@@ -3,7 +3,7 @@ use Rattle.std.specs.Prelude.{◌≡◌, ℕ, ◌+◌, ◌<◌, ◌≤◌, List,
 use Rattle.std.specs.List.{AllByRecursion}
 use Rattle.heap_model.specs.Limits.{most_turns}
 use Rattle.heap_model.specs.declared.command.Command.{Command}
-use Rattle.heap_model.specs.declared.command.Command.TheVariants.{Leave}
+use Rattle.heap_model.specs.declared.command.Command.TheVariants.{Cas, Leave}
 use Rattle.heap_model.specs.declared.command.TurnCommand.{TurnCommand}
 use Rattle.heap_model.specs.declared.command.TurnCommand.TheVariants as turns
 use Rattle.heap_model.specs.Heap.{IsHeap}
@@ -18,6 +18,7 @@ use Rattle.script_text.specs.Words.{script_lines}
 
 -- a command that a line of a script may have, with its numbers in their ranges
 abbrev pub IsScripted : Command → Type 0
+IsScripted (Cas r i a v) = ⊥
 IsScripted Leave = ⊥
 IsScripted command = IsCommand command
 

@@ -2,7 +2,7 @@
 use Rattle.std.specs.Prelude.{ℕ, List, [], ◌∷◌, codes, decimal, map}
 use Rattle.heap_model.specs.declared.heap.Heap.{Heap}
 use Rattle.heap_model.specs.declared.command.Command.{Command}
-use Rattle.heap_model.specs.declared.command.Command.TheVariants.{New, Array, Get, Set, Num, Nil, Copy, Same, Len, Poll, Collect, Leave}
+use Rattle.heap_model.specs.declared.command.Command.TheVariants.{New, Array, Get, Set, Cas, Num, Nil, Copy, Same, Len, Poll, Collect, Leave}
 use Rattle.heap_model.specs.declared.command.TurnCommand.{TurnCommand}
 use Rattle.heap_model.specs.declared.command.TurnCommand.TheVariants as turns
 use Rattle.script_text.specs.declared.script.Line.{Line}
@@ -23,6 +23,7 @@ command_words (New d fields) = codes "new" ∷ decimal d ∷ decimal fields ∷ 
 command_words (Array d cells) = codes "array" ∷ decimal d ∷ decimal cells ∷ []
 command_words (Get d r i) = codes "get" ∷ decimal d ∷ decimal r ∷ decimal i ∷ []
 command_words (Set r i v) = codes "set" ∷ decimal r ∷ decimal i ∷ decimal v ∷ []
+command_words (Cas r i a v) = codes "cas" ∷ decimal r ∷ decimal i ∷ decimal a ∷ decimal v ∷ []
 command_words (Num d n) = codes "num" ∷ decimal d ∷ decimal n ∷ []
 command_words (Nil d) = codes "nil" ∷ decimal d ∷ []
 command_words (Copy d r) = codes "copy" ∷ decimal d ∷ decimal r ∷ []

@@ -66,6 +66,13 @@ pub fn push_command(text: &mut Vec<u8>, command: &Command) -> Result<(), Memory>
             push_number(text, i.into())?;
             push_number(text, v.into())
         }
+        Command::Cas { r, i, a, v } => {
+            push_word(text, b"cas")?;
+            push_number(text, r.into())?;
+            push_number(text, i.into())?;
+            push_number(text, a.into())?;
+            push_number(text, v.into())
+        }
         Command::Num { d, n } => {
             push_word(text, b"num")?;
             push_number(text, d.into())?;

@@ -35,9 +35,10 @@ record_words (New d fields) a_record = refl
 record_words _ a_record = absurd a_record
 
 -- what the seat keeps of its own, whatever else changes
-pub keeps_own_data : (old seat next : Seat) → kept_of seat ≡ kept_of old → next.registers ≡ seat.registers → next.reserve ≡ seat.reserve → next.cursor ≡ seat.cursor → next.made ≡ seat.made → KeepsOwn old next
-keeps_own_data old seat next kept registers reserve cursor made = record {
+pub keeps_own_data : (old seat next : Seat) → kept_of seat ≡ kept_of old → next.registers ≡ seat.registers → next.seen ≡ seat.seen → next.reserve ≡ seat.reserve → next.cursor ≡ seat.cursor → next.made ≡ seat.made → KeepsOwn old next
+keeps_own_data old seat next kept registers seen reserve cursor made = record {
   registers_stay = registers ∙ ap (λ (k : Kept). k.registers) kept;
+  seen_stays = seen ∙ ap (λ (k : Kept). k.seen) kept;
   reserve_stays = reserve ∙ ap (λ (k : Kept). k.reserve) kept;
   cursor_stays = cursor ∙ ap (λ (k : Kept). k.cursor) kept;
   made_stays = made ∙ ap (λ (k : Kept). k.made) kept;

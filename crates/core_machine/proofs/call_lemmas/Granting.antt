@@ -59,7 +59,7 @@ module _ (heap : Heap) (old : State) (number : ℕ) (command : Command) (now : S
         array = λ an_array_. record {
           spine_refused = λ lacks. record {
             shows = rw (while.found, same) refl;
-            own_stays = subst (KeepsOwn (seat_at old number)) (sym here) (keeps_own_data (seat_at old number) seat _ kept refl refl refl refl);
+            own_stays = subst (KeepsOwn (seat_at old number)) (sym here) (keeps_own_data (seat_at old number) seat _ kept refl refl refl refl refl);
             table_stays = same_table_after_take_back heap (spine_need seat) old.words now.words (subst (λ (n : ℕ). AsksWords heap n old.words now.words) (sym need_) while.asked) now.words machine.table small
                 (omega (arith, few.1)) (λ a there. refl);
           };

@@ -82,6 +82,7 @@ module _ (heap : Heap) (start : List ℕ) (number : ℕ) where
 abbrev with_kept : Seat → Kept → Command → List Entry → Seat
 with_kept seat kept command mine = record seat {
   registers = kept.registers;
+  seen = kept.seen;
   reserve = kept.reserve;
   cursor = kept.cursor;
   answered = kept.answered;

@@ -105,7 +105,7 @@ module _ (heap : Heap) (old : State) (number : ℕ) (command : Command) (now : S
       let few : within_reach heap old number < need_of command = omega (arith, is.too_few, ap need_of same, found) in
       let refused : IsRefused heap old after_ number command (replies.Full (need seat) (length seat.reserve + seat.given)) = record {
         shows = rw (found, same) refl;
-        own_stays = subst (KeepsOwn (seat_at old number)) (sym here) (keeps_own_data (seat_at old number) seat _ kept refl refl refl refl);
+        own_stays = subst (KeepsOwn (seat_at old number)) (sym here) (keeps_own_data (seat_at old number) seat _ kept refl refl refl refl refl);
         table_stays = same_table_after_refusal heap seat.command old.words while.claims.base now.words is.makes.an_object is.makes.in_range machine.table small
             (subst (λ (n : ℕ). AsksWords heap n old.words while.claims.base) (sym (ap spine_need_of same)) while.claims.asked)
             (same_table_without_claims heap while.claims.base now.words (subst (Claims heap while.claims.base now.words) empty while.claims.claims));

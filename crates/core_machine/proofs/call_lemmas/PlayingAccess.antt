@@ -1,21 +1,23 @@
 -- A call that reads or writes an object, made by itself, step by step.
-use Rattle.std.proofs.Common.{◌≡◌, ℕ, List, [], ◌∷◌, ◌++◌, Option, Some, None, inl, inr, refl, sym, ap, subst, ◌∙◌, append-nil}
+use Rattle.std.proofs.Common.{◌≡◌, ℕ, ◌==◌, Bool, true, false, List, [], ◌∷◌, ◌++◌, Option, Some, None, inl, inr, refl, sym, ap, subst, ◌∙◌, append-nil}
 use Rattle.std.proofs.lemmas.Bool.Decides.{eqb_tells}
-use Rattle.core_machine.proofs.Terms.{Heap, Command, Entry, Said, Reply, Word, LoadingMeta, Walking, LoadingSpot, Indexing, Getting, Naming, LoadingOld, ShadingOld, ShadingNew}
-use Rattle.core_machine.proofs.Terms.{Swapping, source_of, at, put, address_of, word_after, head_of, array_length_of, stamp_of, id_of, register_in, register_head, at_access}
+use Rattle.core_machine.proofs.Terms.{Heap, Command, Entry, Said, Reply, Word, LoadingMeta, Walking, LoadingSpot, Indexing, Getting, Naming, LoadingOld, ShadingOld, ShadingNew, ShadingSide, Side}
+use Rattle.core_machine.proofs.Terms.{Swapping, Replacing, after_replace, source_of, at, put, address_of, word_after, head_of, array_length_of, stamp_of, id_of, register_in, register_head, at_access}
 use Rattle.core_machine.proofs.Terms.{with_field_place, field_point_of, way_point_of, after_link, after_walk, after_length, at_payload, meta_reply_of, after_meta, after_get}
 use Rattle.core_machine.proofs.Terms.{new_point_of, after_old, after_old_load, Seat, with_entries, Move, access_move, seat_after, State, seat_at, found_by, state_after_move}
 use Rattle.core_machine.proofs.Terms.{NamesObject, Kept}
 use Rattle.heap_model.specs.declared.id.Value.TheVariants as values
 use Rattle.heap_model.specs.declared.reply.Reply.TheVariants as replies
 use Rattle.core_machine.specs.declared.point.Point.TheVariants as points
-use Rattle.core_machine.specs.seat.AccessMoves.{reply_entries_if, got_adds, got_shows}
+use Rattle.core_machine.specs.seat.AccessMoves.{reply_entries, reply_entries_if, got_adds, got_shows, old_word_of, replaced_reply}
+use Rattle.core_machine.specs.declared.point.Side.TheVariants as sides
+use Rattle.core_machine.proofs.moves.Compare.{offer_cases}
 use Rattle.core_machine.specs.seat.Looks.{forgotten}
 use Rattle.core_machine.proofs.table_lemmas.Addresses.{put_of_read_changes_nothing}
 use Rattle.core_machine.proofs.seat_lemmas.FieldPoints.{field_point_cases}
 use Rattle.core_machine.proofs.seat_lemmas.Fitting.{array_makes_object, record_makes_object}
 use Rattle.core_machine.proofs.call_lemmas.Stages.{AccessAlone, AloneStage}
-use Rattle.core_machine.proofs.call_lemmas.RepliesAlone.{RepliesAlone, object_replies_alone, get_replies_alone, set_replies_alone, alone_makes_no_object, IsBeyond, meta_reply_is_beyond}
+use Rattle.core_machine.proofs.call_lemmas.RepliesAlone.{RepliesAlone, object_replies_alone, get_replies_alone, set_replies_alone, cas_replies_alone, alone_makes_no_object, IsBeyond, meta_reply_is_beyond}
 use Rattle.core_machine.proofs.call_lemmas.Stages.{IsAlone, PointLeadsAlone}
 use Rattle.core_machine.proofs.call_lemmas.PlayingEnds.{LeavesAllOf, beyond_forgets, ended_alone, leaves_all}
 
@@ -25,7 +27,7 @@ module _ (heap : Heap) (old : State) (number : ℕ) (command : Command) (now : S
 
   -- the way goes on
   field_alone : (words : List ℕ) (told : List Entry) (seat : Seat) (c : Command) → AccessAlone old words number command told (field_point_of seat c)
-  field_alone words told seat c = field_point_cases (AccessAlone old words number command told) seat c tt (λ on. tt) (λ off. tt)
+  field_alone words told seat c = field_point_cases (AccessAlone old words number command told) seat c tt (λ on. tt) (λ off. tt) (λ on some. tt) (λ on none some. tt) (λ none. tt)
 
   way_alone : (words : List ℕ) (told : List Entry) (seat : Seat) → AccessAlone old words number command told (way_point_of seat)
   way_alone words told seat =
@@ -159,3 +161,30 @@ swaps_alone heap old number command now told here =
     let seat = seat_at now number in
     let move = access_move heap number seat Swapping in
     ended_alone heap old number command told (state_after_move heap now number move) seat (replies.Was (stamp_of (found_by heap now move.step))) here.same (set_replies_alone seat.command here.way.0.1) (λ refusal. absurd refusal)
+
+-- a compare and swap has shaded one of its values
+pub shades_side_alone : (side : Side) → PointLeadsAlone (points.Access (ShadingSide side))
+shades_side_alone sides.Expected heap old number command now told here =
+    offer_cases (λ s. AloneStage heap old (state_after_move heap now number (access_move heap number (seat_at now number) (ShadingSide sides.Expected))) number command (told ++ []) (with_entries s []) s.point)
+    (seat_at now number) (λ some. tt) (λ none. tt)
+shades_side_alone sides.New heap old number command now told here = tt
+
+-- and has compared its field
+pub replaces_alone : PointLeadsAlone (points.Access Replacing)
+replaces_alone heap old number command now told here = by (found == old_word_of seat)
+  where
+    seat : Seat
+    seat = seat_at now number
+
+    move : Move
+    move = access_move heap number seat Replacing
+
+    found : ℕ
+    found = found_by heap now move.step
+
+    by : (same : Bool) → AloneStage heap old (state_after_move heap now number move) number command
+        (told ++ reply_entries number seat (replaced_reply found same))
+        (with_entries (after_replace seat same) (reply_entries number seat (replaced_reply found same)))
+        (with_entries (after_replace seat same) (reply_entries number seat (replaced_reply found same))).point
+    by true = ended_alone heap old number command told (state_after_move heap now number move) seat (replies.Was (stamp_of found)) here.same (cas_replies_alone seat.command here.way.1) (λ refusal. absurd refusal)
+    by false = ended_alone heap old number command told (state_after_move heap now number move) seat (replies.Now (stamp_of found)) here.same (cas_replies_alone seat.command here.way.1) (λ refusal. absurd refusal)

@@ -21,6 +21,7 @@ module _ (heap : Heap) (old : State) (number : ℕ) (now : State) (fits : Fits h
   alone_stands_at_begin (commands.Array d cells) served = same
   alone_stands_at_begin (commands.Get d r i) served = opened_alone (commands.Get d r i) (register_in (seat_at old number).registers r)
   alone_stands_at_begin (commands.Set r i v) served = opened_alone (commands.Set r i v) (register_in (seat_at old number).registers r)
+  alone_stands_at_begin (commands.Cas r i a v) served = opened_alone (commands.Cas r i a v) (register_in (seat_at old number).registers r)
   alone_stands_at_begin (commands.Num d n) served = same
   alone_stands_at_begin (commands.Nil d) served = same
   alone_stands_at_begin (commands.Copy d r) served = same

@@ -5,13 +5,13 @@ use Rattle.core_machine.proofs.Terms.{put, address_of, word_after, Seat, call_ov
 use Rattle.heap_model.specs.declared.command.Command.TheVariants as commands
 use Rattle.heap_model.specs.declared.reply.Reply.TheVariants as replies
 use Rattle.core_machine.specs.declared.point.Point.TheVariants as points
-use Rattle.core_machine.specs.seat.Local.{local_reply_of}
+use Rattle.core_machine.specs.seat.Local.{local_reply_of, local_seen}
 use Rattle.core_machine.specs.seat.Looks.{Looks, forgotten, seen_phase}
 use Rattle.core_machine.proofs.table_lemmas.Addresses.{put_of_read_changes_nothing}
 use Rattle.core_machine.proofs.seat_lemmas.Fitting.{array_makes_object, record_makes_object}
 use Rattle.core_machine.proofs.call_lemmas.Stages.{Answered}
 use Rattle.core_machine.proofs.machine_lemmas.Parties.{set_seat_is_read}
-use Rattle.core_machine.proofs.call_lemmas.RepliesAlone.{RepliesAlone, local_replies_alone, alone_makes_no_object, local_reply_is_no_object, refusal_leaves_registers, IsBeyond}
+use Rattle.core_machine.proofs.call_lemmas.RepliesAlone.{RepliesAlone, local_replies_alone, alone_makes_no_object, local_reply_is_no_object, refusal_leaves_registers, refusal_leaves_seen, IsBeyond}
 use Rattle.core_machine.proofs.call_lemmas.Stages.{PointLeadsAlone}
 
 -- the reply is a refusal, where there is one, and leaves all
@@ -34,6 +34,7 @@ as_before : (old seat : Seat) (looks : Looks) (mine : List Entry) → call_over 
 as_before old seat looks mine resting kept =
     ap (λ (k : Kept). record (call_over old) {
       registers = k.registers;
+      seen = k.seen;
       reserve = k.reserve;
       cursor = k.cursor;
       answered = k.answered;
@@ -100,5 +101,6 @@ tells_alone heap old number command now told here =
     let mine = seat.mine ++ Said number seat.command reply ∷ [] in
     ended_alone heap old number command told (state_after_move heap now number move) seat reply here.same (local_replies_alone seat.registers seat.command here.fits.2) (λ refusal.
     leaves_all heap old number now here.within here.resting seat move reply looks mine here.alone (put_of_read_changes_nothing heap now.words Phase)
-    (ap (λ (r : List Register). record (call_over seat) { registers = r; looks = looks; mine = mine }) (refusal_leaves_registers seat.registers seat.command refusal)) here.own.kept_stays
+    (ap (λ (r : List Register). record (call_over seat) { registers = r; seen = local_seen seat.seen seat.command; looks = looks; mine = mine }) (refusal_leaves_registers seat.registers seat.command refusal)
+    ∙ ap (λ (s : List ℕ). record (call_over seat) { seen = s; looks = looks; mine = mine }) (refusal_leaves_seen seat.registers seat.seen seat.command refusal)) here.own.kept_stays
     (seen_refused heap old now number reply (local_reply_is_no_object seat.registers seat.command refusal) here.own.kept_stays here.alone))

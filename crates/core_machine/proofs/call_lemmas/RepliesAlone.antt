@@ -2,10 +2,10 @@
 use Rattle.std.specs.Prelude.{nat_lt, if◌then◌else◌}
 use Rattle.std.proofs.Common.{◌≡◌, ℕ, Bool, true, false, List, Option, Some, None, refl}
 use Rattle.core_machine.proofs.Terms.{Command, Reply, Register, IsPlaceRefusal, MakesObject, field_reply_of, meta_reply_of, register_in, value_of, is_same_value, length_of, IsGet}
-use Rattle.core_machine.proofs.Terms.{IsSet, NamesObject, IsLocal}
+use Rattle.core_machine.proofs.Terms.{IsSet, IsCas, NamesObject, IsLocal}
 use Rattle.heap_model.specs.declared.command.Command.TheVariants as commands
 use Rattle.heap_model.specs.declared.reply.Reply.TheVariants.{NoObject, NoField}
-use Rattle.core_machine.specs.seat.Local.{answer_of, local_reply_of, local_registers}
+use Rattle.core_machine.specs.seat.Local.{answer_of, local_reply_of, local_registers, local_seen}
 
 -- the command makes no object, asks for no phase, isn't a leave, and is a single call
 abbrev pub RepliesAlone : Command → Type 0
@@ -27,6 +27,7 @@ local_replies_alone registers _ local = tt
 pub object_replies_alone : (command : Command) → NamesObject command → RepliesAlone command
 object_replies_alone (commands.Get d r i) names = tt
 object_replies_alone (commands.Set r i v) names = tt
+object_replies_alone (commands.Cas r i a v) names = tt
 object_replies_alone (commands.Len r) names = tt
 object_replies_alone _ names = absurd names
 
@@ -37,6 +38,10 @@ get_replies_alone _ a_get = absurd a_get
 pub set_replies_alone : (command : Command) → IsSet command → RepliesAlone command
 set_replies_alone (commands.Set r i v) a_set = tt
 set_replies_alone _ a_set = absurd a_set
+
+pub cas_replies_alone : (command : Command) → IsCas command → RepliesAlone command
+cas_replies_alone (commands.Cas r i a v) a_cas = tt
+cas_replies_alone _ a_cas = absurd a_cas
 
 -- such a command makes no object
 pub alone_makes_no_object : (command : Command) → RepliesAlone command → MakesObject command → ⊥
@@ -71,6 +76,7 @@ field_beyond field found = by (nat_lt field (length_of found))
 pub meta_reply_is_beyond : (command : Command) (found : ℕ) → IsBeyond (meta_reply_of command found)
 meta_reply_is_beyond (commands.Get d r i) found = field_beyond i found
 meta_reply_is_beyond (commands.Set r i v) found = field_beyond i found
+meta_reply_is_beyond (commands.Cas r i a v) found = field_beyond i found
 meta_reply_is_beyond _ found = tt
 
 -- a refusal leaves the registers
@@ -79,3 +85,10 @@ refusal_leaves_registers registers (commands.Num d n) refusal = absurd refusal
 refusal_leaves_registers registers (commands.Nil d) refusal = absurd refusal
 refusal_leaves_registers registers (commands.Copy d r) refusal = absurd refusal
 refusal_leaves_registers registers _ refusal = refl
+
+-- and the stamps under which they were seen
+pub refusal_leaves_seen : (registers : List Register) (seen : List ℕ) (command : Command) → IsPlaceRefusal (local_reply_of registers command) → local_seen seen command ≡ seen
+refusal_leaves_seen registers seen (commands.Num d n) refusal = absurd refusal
+refusal_leaves_seen registers seen (commands.Nil d) refusal = absurd refusal
+refusal_leaves_seen registers seen (commands.Copy d r) refusal = absurd refusal
+refusal_leaves_seen registers seen _ refusal = refl

@@ -5,7 +5,7 @@ use Rattle.std.proofs.lemmas.List.{length-set}
 use Rattle.std.proofs.lemmas.List.Elements.{All-take, All-set}
 use Rattle.core_machine.proofs.Terms.{Heap, bearing_move, is_last_birth, birth_move, last_birth_move, bears_black_of, Storing, Bearing, Object, target_of, HasBody, SpineIsListed}
 use Rattle.core_machine.proofs.Terms.{FitsMaking, Fits, FitsRegister, after_store, after_birth, after_last_birth, last_group_of, last_run, before_run, store_point, next_object_id}
-use Rattle.core_machine.proofs.Terms.{next_name, Seat, with_entries, mask_of, birth_bits_of, Nears}
+use Rattle.core_machine.proofs.Terms.{next_name, Seat, with_held, with_entries, mask_of, birth_bits_of, Nears}
 use Rattle.core_machine.specs.declared.point.Point.TheVariants as points
 use Rattle.core_machine.specs.seat.MakingMoves.{store_move, hand_run}
 use Rattle.core_machine.proofs.call_lemmas.Awaits.{adds_where_none_awaited}
@@ -77,7 +77,7 @@ fits_made : (heap : Heap) (number : ℕ) (seat : Seat) → Fits heap seat → Is
 fits_made heap number seat fits aside is =
     let some = object_need_within_limits seat.command is.makes.an_object is.makes.in_range in
     let head = fits.hand.body_within 0 0 (omega (arith, is.whole)) in
-    fits_after_call heap (record seat { registers = set seat.registers (target_of seat.command) (Object (get_or seat.body 0 0) (next_object_id number seat)); made = seat.made + 1 })
+    fits_after_call heap (record (with_held seat (target_of seat.command) (Object (get_or seat.body 0 0) (next_object_id number seat)) 0) { made = seat.made + 1 })
     (length-set seat.registers _ _ ∙ fits.own.registers_whole)
     (All-set (FitsRegister heap) seat.registers (target_of seat.command) (Object (get_or seat.body 0 0) (next_object_id number seat)) head fits.own.registers_fit)
     fits.own.cursor_within fits.own.small_reserve fits.own.reserve_of_cursor (left_aside_is_absurd aside.present)

@@ -5,7 +5,7 @@ use Rattle.heap_words.specs.Cell.{cell_of}
 use Rattle.heap_words.specs.declared.kind.Kind.{Kind}
 use Rattle.heap_words.specs.declared.kind.Kind.TheVariants as kinds
 use Rattle.core_machine.proofs.Terms.{Heap, Getting, Naming, Object, Word, found_by, entries_awaited, Fits, FitsRegister, SeatIsAtGet, after_get, Seat, with_entries, head_of}
-use Rattle.core_machine.proofs.Terms.{id_of, plain_of, plain_register, IsWithinHeap, Nears}
+use Rattle.core_machine.proofs.Terms.{stamp_of, id_of, plain_of, plain_register, IsWithinHeap, Nears}
 use Rattle.core_machine.specs.declared.point.Point.TheVariants as points
 use Rattle.core_machine.specs.seat.AccessMoves.{loaded_head_of, got_adds, got_shows, get_move, name_move}
 use Rattle.core_machine.proofs.call_lemmas.Awaits.{after_words}
@@ -26,7 +26,7 @@ plain_fits heap kinds.Fixed value small = tt
 fits_got : (heap : Heap) (seat : Seat) (found : ℕ) (head : Option ℕ) → Rests heap seat → SeatIsAtGet seat → head_of found ≡ head → IsWithinHeap heap head
     → Fits heap (after_get seat found head)
 fits_got heap seat found None rests is none led =
-    fits_with_register heap seat (plain_of found) rests (plain_fits heap (cell_of found).kind (cell_of found).value (omega arith))
+    fits_with_register heap seat (plain_of found) (stamp_of found) rests (plain_fits heap (cell_of found).kind (cell_of found).value (omega arith))
 fits_got heap seat found (Some head) rests is some led =
     fits_at_access heap seat seat.reached seat.links seat.part found Naming rests rests.fits.way.reached_within (subst (IsWithinHeap heap) (sym some) led)
     (is, subst IsSome (sym some) refl)
@@ -61,7 +61,7 @@ point_stands_at_getting heap number seat here =
 pub point_stands_at_naming : PointStands (points.Access Naming)
 point_stands_at_naming heap number seat here = record {
   step = load_step_stands heap (name_move number seat).step refl (some_fragment_within_heap heap (head_of seat.loaded) here.way.1 here.fits.way.loaded_within, omega arith);
-  fits = λ found small led. fits_with_register heap seat (Object (loaded_head_of seat) (id_of found)) (access_point_rests heap number seat Naming here)
+  fits = λ found small led. fits_with_register heap seat (Object (loaded_head_of seat) (id_of found)) (stamp_of seat.loaded) (access_point_rests heap number seat Naming here)
       (some_fragment_within_heap heap (head_of seat.loaded) here.way.1 here.fits.way.loaded_within);
   near = λ found. record { fewer = omega arith; paid = omega arith };
   adds = λ now. record { kept = refl; told = rw here.point_is refl };

@@ -40,7 +40,7 @@ nils_fit heap n = All-replicate (FitsRegister heap) n Nil tt
 -- the seat has left
 fits_parted : (heap : Heap) (seat : Seat) → Fits heap seat → seat.reserve ≡ [] → Fits heap (after_leave seat)
 fits_parted heap seat fits empty =
-    fits_after_call heap (record seat { registers = replicate 16 Nil; left = true }) (length-replicate 16 Nil) (nils_fit heap 16) fits.own.cursor_within fits.own.small_reserve fits.own.reserve_of_cursor
+    fits_after_call heap (record seat { registers = replicate 16 Nil; seen = replicate 16 0; left = true }) (length-replicate 16 Nil) (nils_fit heap 16) fits.own.cursor_within fits.own.small_reserve fits.own.reserve_of_cursor
     (λ left. empty)
 
 -- the reserve is given back

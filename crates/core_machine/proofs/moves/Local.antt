@@ -7,7 +7,7 @@ use Rattle.heap_model.specs.Command.{IsCommand}
 use Rattle.core_machine.proofs.Terms.{Command, Heap, local_move, Register, Nil, Number, PollLoad, Fits, FitsRegister, IsLocal, register_in, Seat, with_seen}
 use Rattle.heap_model.specs.declared.command.Command.TheVariants as commands
 use Rattle.core_machine.specs.declared.point.Point.TheVariants as points
-use Rattle.core_machine.specs.seat.Local.{after_local, local_registers}
+use Rattle.core_machine.specs.seat.Local.{after_local, local_registers, local_seen}
 use Rattle.core_machine.proofs.call_lemmas.Awaits.{adds_where_none_awaited}
 use Rattle.core_machine.proofs.moves.Standing.{PointStands, call_point_has_not_left, BeginStands, IsReady, ready_is_aside, ready_is_at_rest, resting_begin_stands}
 use Rattle.core_machine.proofs.seat_lemmas.Aside.{left_aside_is_absurd, fits_after_call}
@@ -31,7 +31,7 @@ local_whole registers _ = refl
 -- the reply of a local command was told
 fits_local : (heap : Heap) (seat : Seat) (found : ℕ) → Fits heap seat → seat.left ≡ false → IsCommand seat.command → Fits heap (after_local (with_seen found seat))
 fits_local heap seat found fits present range =
-    fits_after_call heap (record (with_seen found seat) { registers = local_registers seat.registers seat.command }) (local_whole seat.registers seat.command ∙ fits.own.registers_whole)
+    fits_after_call heap (record (with_seen found seat) { registers = local_registers seat.registers seat.command; seen = local_seen seat.seen seat.command }) (local_whole seat.registers seat.command ∙ fits.own.registers_whole)
     (local_fit heap seat.registers seat.command range fits.own.registers_fit) fits.own.cursor_within fits.own.small_reserve fits.own.reserve_of_cursor (left_aside_is_absurd present)
 
 -- a reply is told

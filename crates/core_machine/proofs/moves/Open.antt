@@ -1,7 +1,7 @@
 -- A call opens an object, by its meta.
 use Rattle.std.proofs.Common.{◌≡◌, ℕ, ◌+◌, ◌%◌, [], length, inl, refl, arith, List, subst, sym, Option, Some, None, ap}
 use Rattle.std.specs.Prelude.{IsSome}
-use Rattle.core_machine.proofs.Terms.{Command, Get, Set, Len, Heap, Reply, LoadingMeta, LoadingSpot, Register, Nil, Number, Object, found_by, entries_awaited, object_of, field_of}
+use Rattle.core_machine.proofs.Terms.{Command, Get, Set, Cas, Len, Heap, Reply, LoadingMeta, LoadingSpot, Register, Nil, Number, Object, found_by, entries_awaited, object_of, field_of}
 use Rattle.core_machine.proofs.Terms.{Fits, FitsRegister, IsLocal, NamesObject, NamesField, SeatIsAtHead, row_of, part_of, with_field_place, after_length, meta_reply_of}
 use Rattle.core_machine.proofs.Terms.{after_meta, access_start, register_head, register_in, Seat, with_entries, pointer_in, array_length_of, IsWithinHeap, Nears}
 use Rattle.heap_model.specs.declared.command.Command.TheVariants as commands
@@ -20,6 +20,7 @@ use Rattle.core_machine.proofs.table_lemmas.WithinHeap.{each_register_fits}
 met_names : (command : Command) (found : ℕ) → NamesObject command → meta_reply_of command found ≡ None → NamesField command
 met_names (Get d r i) found names none = tt
 met_names (Set r i v) found names none = tt
+met_names (Cas r i a v) found names none = tt
 met_names (Len r) found names none = cc
 met_names _ found names none = absurd names
 
@@ -46,7 +47,7 @@ fits_met : (heap : Heap) (seat : Seat) (found : ℕ) (reply : Option Reply) → 
     → IsWithinHeap heap (pointer_in 0 found) → Fits heap (after_meta seat found reply)
 fits_met heap seat found None rests is none led =
     fits_length heap seat found (array_length_of found) rests is (met_names seat.command found is.names none) led
-fits_met heap seat found (Some reply) rests is some led = fits_after_sets heap seat seat.registers seat.sets rests rests.fits.own.registers_whole rests.fits.own.registers_fit
+fits_met heap seat found (Some reply) rests is some led = fits_after_sets heap seat seat.registers seat.seen seat.sets rests rests.fits.own.registers_whole rests.fits.own.registers_fit
 
 nears_met : (heap : Heap) (number : ℕ) (seat : Seat) (found : ℕ) (reply : Option Reply)
     → Nears heap (with_entries (after_meta seat found reply) (reply_entries_if number seat reply)) 1 (row_of (field_of seat.command) + 7) (length (reply_entries_if number seat reply))
@@ -76,6 +77,7 @@ point_stands_at_loading_meta heap number seat here =
 local_none : (registers : List Register) (c : Command) → NamesObject c → register_head (register_in registers (object_of c)) ≡ None → IsLocal registers c
 local_none registers (commands.Get d r i) names none = none
 local_none registers (commands.Set r i v) names none = none
+local_none registers (commands.Cas r i a v) names none = none
 local_none registers (commands.Len r) names none = none
 local_none registers _ names none = absurd names
 

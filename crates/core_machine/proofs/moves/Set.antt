@@ -100,7 +100,7 @@ point_stands_at_swapping heap number seat here =
         wide = λ found small. register_word_fits_bits heap (new_register_of seat) (set_stamp number (seat.sets + 1)) groups fit small_stamp;
         leads = λ found led. register_leads_within_heap heap (new_register_of seat) (set_stamp number (seat.sets + 1)) seat.part groups fit small_stamp;
       };
-      fits = λ found small led. fits_after_sets heap seat seat.registers (seat.sets + 1) (access_point_rests heap number seat Swapping here) here.fits.own.registers_whole here.fits.own.registers_fit;
+      fits = λ found small led. fits_after_sets heap seat seat.registers seat.seen (seat.sets + 1) (access_point_rests heap number seat Swapping here) here.fits.own.registers_whole here.fits.own.registers_fit;
       near = λ found. record { fewer = omega arith; paid = omega arith };
       adds = λ now. adds_where_none_awaited heap now number seat (swap_move number seat) refl (rw here.point_is refl) refl refl;
     }

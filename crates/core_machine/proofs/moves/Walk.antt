@@ -2,14 +2,14 @@
 use Rattle.std.proofs.Common.{◌≡◌, ℕ, ◌+◌, ◌-◌, ◌*◌, ◌<◌, ◌≤◌, [], inl, inr, refl, arith, List, subst, sym, Option, Some, None, ◌⊎◌}
 use Rattle.std.proofs.lemmas.Bool.Decides.{eqb_tells}
 use Rattle.std.specs.Prelude.{unwrap_or}
-use Rattle.core_machine.proofs.Terms.{Command, Get, Set, Entry, Heap, Walking, found_by, entries_awaited_at, entries_awaited, field_of, Fits, FitsAccess, IsAtField, IsGet, IsSet}
+use Rattle.core_machine.proofs.Terms.{Command, Get, Set, Cas, Entry, Heap, Walking, found_by, entries_awaited_at, entries_awaited, field_of, Fits, FitsAccess, IsAtField, IsGet, IsSet, IsCas}
 use Rattle.core_machine.proofs.Terms.{NamesField, WorksOnObject, after_walk, at_access, row_of, has_barrier_of, field_point_of, way_point_of, after_link, Seat, with_entries}
 use Rattle.core_machine.proofs.Terms.{pointer_in, link_of, IsWithinHeap, access_steps, Nears}
 use Rattle.core_machine.specs.declared.point.Point.TheVariants as points
 use Rattle.core_machine.specs.seat.AccessMoves.{walk_move}
 use Rattle.core_machine.proofs.call_lemmas.Awaits.{adds_where_none_awaited, after_words}
 use Rattle.core_machine.proofs.moves.Standing.{PointStands, access_point_rests}
-use Rattle.core_machine.proofs.seat_lemmas.FieldPoints.{field_point_cases}
+use Rattle.core_machine.proofs.seat_lemmas.FieldPoints.{field_point_cases, guard_point_cases}
 use Rattle.core_machine.proofs.seat_lemmas.FittingAccess.{Rests, fits_at_access}
 use Rattle.core_machine.proofs.table_lemmas.Bits.{true_or_false}
 use Rattle.core_machine.proofs.table_lemmas.StepStands.{load_step_stands}
@@ -27,6 +27,12 @@ field_point_fits seat (Set r i v) is works names there empty =
     elim (true_or_false (has_barrier_of seat)) as (λ _. FitsAccess seat (field_point_of seat (Set r i v))) [
       | inl on ↦ rw on ((works, subst IsSet (sym is) tt, there), on, empty)
       | inr off ↦ rw off ((works, subst IsSet (sym is) tt, there), λ e. empty)
+    ]
+field_point_fits seat (Cas r i a v) is works names there empty =
+    elim (true_or_false (has_barrier_of seat)) as (λ _. FitsAccess seat (field_point_of seat (Cas r i a v))) [
+      | inl on ↦ rw on (guard_point_cases (FitsAccess seat) seat (λ some. ((works, subst IsCas (sym is) tt, there, empty), on, some))
+          (λ none some. ((works, subst IsCas (sym is) tt, there, empty), on, some)) (λ none neither. (works, subst IsCas (sym is) tt, there, empty)))
+      | inr off ↦ rw off (works, subst IsCas (sym is) tt, there, empty)
     ]
 field_point_fits seat _ is works names there empty = absurd names
 
@@ -63,6 +69,7 @@ fits_onward heap seat links part found rests works names empty fewer field led =
 -- few steps are left where the field was reached
 pub field_has_few_steps : (rows links : ℕ) (seat : Seat) (command : Command) → access_steps rows links (field_point_of seat command) ≤ 4
 field_has_few_steps rows links seat command = field_point_cases (λ p. access_steps rows links p ≤ 4) seat command (omega arith) (λ on. omega arith) (λ off. omega arith)
+    (λ on some. omega arith) (λ on none some. omega arith) (λ none. omega arith)
 
 way_few : (rows : ℕ) (seat : Seat) → access_steps rows seat.links (way_point_of seat) ≤ seat.links + 4
 way_few rows seat =
@@ -95,7 +102,7 @@ nears_onward heap seat found steps more =
 
 -- no way awaits a name
 pub field_awaits_none : (heap : Heap) (words : List ℕ) (number : ℕ) (seat s : Seat) (command : Command) → entries_awaited_at heap words number s (points.Access (field_point_of seat command)) ≡ []
-field_awaits_none heap words number seat s command = field_point_cases (λ p. entries_awaited_at heap words number s (points.Access p) ≡ []) seat command refl (λ on. refl) (λ off. refl)
+field_awaits_none heap words number seat s command = field_point_cases (λ p. entries_awaited_at heap words number s (points.Access p) ≡ []) seat command refl (λ on. refl) (λ off. refl) (λ on some. refl) (λ on none some. refl) (λ none. refl)
 
 way_awaits : (heap : Heap) (words : List ℕ) (number : ℕ) (seat s : Seat) → entries_awaited_at heap words number s (points.Access (way_point_of seat)) ≡ []
 way_awaits heap words number seat s =

@@ -50,6 +50,7 @@ module _ (tells : Step → ℕ → Type 0) where
       by false is = is
   local_stands heap number (commands.Get d r i) before kept local answers = answers
   local_stands heap number (commands.Set r i v) before kept local answers = answers
+  local_stands heap number (commands.Cas r i a v) before kept local answers = answers
   local_stands heap number (commands.Len r) before kept local answers = answers
   local_stands heap number _ before kept local answers = absurd local
 
@@ -149,7 +150,7 @@ module _ (tells : Step → ℕ → Type 0) where
   pub point_leads_at_parting : PointLeads tells (points.Leaving Parting)
   point_leads_at_parting heap number before seat told here stage found tell =
       let last = kept_of ((leave_move number seat).told found) in
-      let left : HasLeft before last = ap (λ (k : Kept). kept_replied seat.looks.seen (record k { registers = replicate register_count Nil; left = true })) stage.kept_is in
+      let left : HasLeft before last = ap (λ (k : Kept). kept_replied seat.looks.seen (record k { registers = replicate register_count Nil; seen = replicate register_count 0; left = true })) stage.kept_is in
       record {
         kept = refl;
         same = refl;

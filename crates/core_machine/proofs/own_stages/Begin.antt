@@ -52,6 +52,7 @@ module _ (tells : Step → ℕ → Type 0) (heap : Heap) (number : ℕ) (old : S
   own_stage_stands_at_begin (commands.Array d cells) limits fits may = record { same = refl; mine = sym (append-nil old.mine); stage = first }
   own_stage_stands_at_begin (commands.Get d r i) limits fits may = opens (commands.Get d r i) (register_in old.registers r)
   own_stage_stands_at_begin (commands.Set r i v) limits fits may = opens (commands.Set r i v) (register_in old.registers r)
+  own_stage_stands_at_begin (commands.Cas r i a v) limits fits may = opens (commands.Cas r i a v) (register_in old.registers r)
   own_stage_stands_at_begin (commands.Num d n) limits fits may = record { same = refl; mine = sym (append-nil old.mine); stage = first }
   own_stage_stands_at_begin (commands.Nil d) limits fits may = record { same = refl; mine = sym (append-nil old.mine); stage = first }
   own_stage_stands_at_begin (commands.Copy d r) limits fits may = record { same = refl; mine = sym (append-nil old.mine); stage = first }

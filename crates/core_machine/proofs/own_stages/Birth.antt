@@ -132,6 +132,7 @@ module _ (tells : Step → ℕ → Type 0) where
               last_born = (found, subst (λ (group_hand : List ℕ). tells (steps.Making (LastBirth (last_group_of seat.hand) (mask_of group_hand) (bears_black_of seat))) found) whole tell);
               kept_is = ap (λ (k : Kept). kept_replied seat.looks.seen (record (kept_of seat) {
                 registers = set k.registers (target_of seat.command) (Object (get_or seat.body 0 0) id);
+                seen = set k.seen (target_of seat.command) 0;
                 made = k.made + 1;
               })) object.kept_is;
             };

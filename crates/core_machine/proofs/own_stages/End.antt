@@ -1,7 +1,7 @@
 -- What a call that is over has come to by the seat's own view.
 use Rattle.std.proofs.Common.{◌≡◌, ◌≢◌, ℕ, ◌+◌, ◌≤◌, ◌⊎◌, List, [], ◌∷◌, ◌++◌, length, refl, ap, subst, ◌∙◌, inl, inr, arith}
 use Rattle.heap_model.specs.calls.SeatCalls.{ComesBefore, last_gives, leave_entries}
-use Rattle.core_machine.proofs.Terms.{Command, Entry, Said, Heap, Reply, Kept, kept_of, StageAt, OwnStage, StandsOn, ComesFirst, IsAnswered, Step, CountsCall, Seat}
+use Rattle.core_machine.proofs.Terms.{Command, Entry, Said, Heap, Reply, Kept, kept_of, kept_replied, StageAt, OwnStage, StandsOn, ComesFirst, IsAnswered, Step, CountsCall, Seat}
 use Rattle.heap_model.specs.declared.command.Command.TheVariants as commands
 use Rattle.heap_model.specs.declared.reply.Reply.TheVariants as replies
 use Rattle.core_machine.specs.declared.point.Point.TheVariants as points
@@ -35,6 +35,11 @@ module _ (tells : Step → ℕ → Type 0) (heap : Heap) (number : ℕ) where
   counts_kept command old seat kept is made sets left =
       counts_alone command old seat (ap (λ (k : Kept). k.made) is ∙ made) (ap (λ (k : Kept). k.sets) is ∙ sets) (ap (λ (k : Kept). k.left) is ∙ left)
 
+  -- one set more was done
+  counts_set : (command : Command) (old seat : Seat) → kept_of seat ≡ kept_replied seat.looks.seen (record (kept_of old) { sets = old.sets + 1 }) → CountsCall old seat command
+  counts_set command old seat is =
+      counted command old seat (omega (arith, ap (λ (k : Kept). k.made) is)) (omega (arith, ap (λ (k : Kept). k.sets) is)) (λ stays. ap (λ (k : Kept). k.left) is)
+
   pub call_counts_by_reply : (command : Command) (old seat : Seat) (first : List Entry) (reply : Reply) → StandsOn tells heap number command (kept_of old) (kept_of seat) first reply → CountsCall old seat command
   call_counts_by_reply commands.Leave old seat first replies.Done is =
       counted commands.Leave old seat (omega (arith, ap (λ (k : Kept). k.made) is)) (omega (arith, ap (λ (k : Kept). k.sets) is)) (λ stays. absurd (stays refl))
@@ -46,8 +51,9 @@ module _ (tells : Step → ℕ → Type 0) (heap : Heap) (number : ℕ) where
       counted command old seat (omega (arith, ap (λ (k : Kept). k.made) is.kept_is))
       (omega (arith, ap (λ (k : Kept). k.sets) is.kept_is, ap (λ (k : Kept). k.sets) between)) (λ stays. ap (λ (k : Kept). k.left) is.kept_is ∙ ap (λ (k : Kept). k.left) between)
   call_counts_by_reply command old seat first (replies.Got value stamp) is = counts_kept command old seat _ is.kept_is refl refl refl
-  call_counts_by_reply command old seat first (replies.Was stamp) is =
-      counted command old seat (omega (arith, ap (λ (k : Kept). k.made) is.kept_is)) (omega (arith, ap (λ (k : Kept). k.sets) is.kept_is)) (λ stays. ap (λ (k : Kept). k.left) is.kept_is)
+  call_counts_by_reply command old seat first (replies.Was stamp) (inl is) = counts_set command old seat is.kept_is
+  call_counts_by_reply command old seat first (replies.Was stamp) (inr is) = counts_set command old seat is.kept_is
+  call_counts_by_reply command old seat first (replies.Now stamp) is = counts_kept command old seat _ is.keeps refl refl refl
   call_counts_by_reply command old seat first (replies.Length n) is = counts_kept command old seat _ is.keeps refl refl refl
   call_counts_by_reply command old seat first (replies.Phase p) is = counts_kept command old seat _ is.kept_is refl refl refl
   call_counts_by_reply command old seat first (replies.Cycle j) is = absurd is
@@ -64,7 +70,9 @@ module _ (tells : Step → ℕ → Type 0) (heap : Heap) (number : ℕ) where
   leave_done before kept first replies.No is = absurd is.local
   leave_done before kept first (replies.Made id) is = absurd is.an_object
   leave_done before kept first (replies.Got value stamp) is = absurd is.a_get
-  leave_done before kept first (replies.Was stamp) is = absurd is.a_set
+  leave_done before kept first (replies.Was stamp) (inl is) = absurd is.a_set
+  leave_done before kept first (replies.Was stamp) (inr is) = absurd is.compared.a_cas
+  leave_done before kept first (replies.Now stamp) is = absurd is.compared.a_cas
   leave_done before kept first (replies.Length n) is = absurd (differ is.register is.a_len)
     where
       differ : (r : ℕ) → commands.Leave ≡ commands.Len r → ⊥

@@ -1,5 +1,5 @@
 -- A call reads or writes the field that it has reached.
-use Rattle.std.proofs.Common.{◌≡◌, ℕ, List, [], ◌∷◌, ◌++◌, Option, Some, None, refl, sym, subst}
+use Rattle.std.proofs.Common.{◌≡◌, ℕ, List, [], ◌∷◌, ◌++◌, inl, Option, Some, None, refl, sym, subst}
 use Rattle.std.specs.Prelude.{IsSome, unwrap_or}
 use Rattle.core_machine.proofs.Terms.{head_of, stamp_of, Entry, Said, Heap, Kept, kept_of, IsUntold, StageAt, IsHeldOf, IsAnswered, Getting, Naming, LoadingOld, ShadingOld}
 use Rattle.core_machine.proofs.Terms.{ShadingNew, Swapping, Object, Step, at_access, after_get, new_point_of, after_old_load, source_of, register_in, register_head, Seat}
@@ -22,7 +22,7 @@ module _ (tells : Step → ℕ → Type 0) where
   named word found (Some head) some tell = (found, tell, refl)
 
   -- by what the seat keeps now
-  kept_field : {before : Kept} (seat : Seat) {told : List Entry} → IsUntold before (kept_of seat) told → ReachesField tells seat.command before seat.reached seat.part
+  pub kept_field : {before : Kept} (seat : Seat) {told : List Entry} → IsUntold before (kept_of seat) told → ReachesField tells seat.command before seat.reached seat.part
       → ReachesField tells seat.command (kept_of seat) seat.reached seat.part
   kept_field seat untold reaches = subst (λ (b : Kept). ReachesField tells seat.command b seat.reached seat.part) (sym untold.kept_stays) reaches
 
@@ -121,7 +121,7 @@ module _ (tells : Step → ℕ → Type 0) where
         kept = refl;
         same = refl;
         stage = holds_of_untold (λ b t. IsAnswered tells heap number seat.command b last (t ++ Said number seat.command (replies.Was (stamp_of found)) ∷ [])) stage.0
-            (reply_alone_answers tells heap number seat.command (kept_of seat) last (replies.Was (stamp_of found)) (set_replies_alone seat.command here.way.0.1) (record {
+            (reply_alone_answers tells heap number seat.command (kept_of seat) last (replies.Was (stamp_of found)) (set_replies_alone seat.command here.way.0.1) (inl (record {
               a_set = here.way.0.1;
               reached = seat.reached;
               part = seat.part;
@@ -130,5 +130,5 @@ module _ (tells : Step → ℕ → Type 0) where
               told = tell;
               stamp_is = refl;
               kept_is = refl;
-            }));
+            })));
       }

@@ -15,12 +15,14 @@ held_head before command = register_head (register_in before.registers (object_o
 none_held : (before : Kept) (command : Command) → NamesObject command → IsLocal before.registers command → held_head before command ≡ None
 none_held before (commands.Get d r i) names local = local
 none_held before (commands.Set r i v) names local = local
+none_held before (commands.Cas r i a v) names local = local
 none_held before (commands.Len r) names local = local
 none_held before _ names local = absurd names
 
 none_replied : (registers : List Register) (command : Command) → NamesObject command → local_reply_of registers command ≡ replies.NoObject
 none_replied registers (commands.Get d r i) names = refl
 none_replied registers (commands.Set r i v) names = refl
+none_replied registers (commands.Cas r i a v) names = refl
 none_replied registers (commands.Len r) names = refl
 none_replied registers _ names = absurd names
 
@@ -60,7 +62,9 @@ module _ (tells : Step → ℕ → Type 0) (heap : Heap) (number : ℕ) (command
   reply_is_no_object replies.No is none = is.reply_is ∙ none_replied before.registers command names
   reply_is_no_object (replies.Made id) is none = absurd (no_maker command names is.an_object)
   reply_is_no_object (replies.Got value stamp) is none = reached_held is.reached is.part is.field none
-  reply_is_no_object (replies.Was stamp) is none = reached_held is.reached is.part is.field none
+  reply_is_no_object (replies.Was stamp) (inl is) none = reached_held is.reached is.part is.field none
+  reply_is_no_object (replies.Was stamp) (inr is) none = reached_held is.compared.reached is.compared.part is.compared.field none
+  reply_is_no_object (replies.Now stamp) is none = reached_held is.compared.reached is.compared.part is.compared.field none
   reply_is_no_object (replies.Length n) is none = opened_held is.head is.meta is.opened none
   reply_is_no_object (replies.Phase p) is none = absurd (no_poll command names is.a_poll)
   reply_is_no_object (replies.Cycle j) is none = absurd is

@@ -1,7 +1,7 @@
 -- A call comes to its field, and reads or writes it.
 use Rattle.std.proofs.Common.{◌≡◌, ℕ, suc, ◌-◌, ◌<◌, List, [], ◌∷◌, ◌++◌, Option, Some, None, refl, subst, ◌∙◌, inl, inr, arith}
 use Rattle.std.proofs.lemmas.Bool.Decides.{eqb_tells, leb_tells}
-use Rattle.core_machine.proofs.Terms.{link_of, length_of, array_length_of, Command, Get, Set, Len, Entry, Said, Heap, Reply, Kept, kept_of, KeepsAll, IsUntold, AccessStage}
+use Rattle.core_machine.proofs.Terms.{link_of, length_of, array_length_of, Command, Get, Set, Cas, Len, Entry, Said, Heap, Reply, Kept, kept_of, KeepsAll, IsUntold, AccessStage}
 use Rattle.core_machine.proofs.Terms.{StageAt, StandsOn, IsAnswered, LoadingMeta, Walking, LoadingSpot, Indexing, Step, at_access, with_field_place, field_point_of, way_point_of}
 use Rattle.core_machine.proofs.Terms.{after_link, after_walk, field_reply_of, after_length, at_payload, after_index, meta_reply_of, after_meta, field_of, NamesObject, NamesField}
 use Rattle.core_machine.proofs.Terms.{Seat, with_entries}
@@ -32,6 +32,7 @@ field_within field found none =
 met_within : (command : Command) (found : ℕ) → NamesObject command → meta_reply_of command found ≡ None → field_of command < length_of found
 met_within (Get d r i) found names none = field_within i found none
 met_within (Set r i v) found names none = field_within i found none
+met_within (Cas r i a v) found names none = field_within i found none
 met_within (Len r) found names none = cc
 met_within _ found names none = absurd names
 
@@ -61,6 +62,7 @@ module _ (tells : Step → ℕ → Type 0) where
       → KeepsAll before kept → meta_reply_of command found ≡ Some reply → StandsOn tells heap number command before kept [] reply
   met_stands heap number (Get d r i) before kept head found reply names opened keeps some = refused_field heap number (Get d r i) before kept head found reply tt opened keeps some
   met_stands heap number (Set r i v) before kept head found reply names opened keeps some = refused_field heap number (Set r i v) before kept head found reply tt opened keeps some
+  met_stands heap number (Cas r i a v) before kept head found reply names opened keeps some = refused_field heap number (Cas r i a v) before kept head found reply tt opened keeps some
   met_stands heap number (Len r) before kept head found reply names opened keeps some =
       subst (StandsOn tells heap number (Len r) before kept []) (some_same some)
       (record { register = r; a_len = refl; head = head; meta = found; opened = opened; length_is = refl; keeps = keeps })
@@ -68,7 +70,7 @@ module _ (tells : Step → ℕ → Type 0) where
 
   -- the field was reached
   field_stage : (before : Kept) (seat s : Seat) (command : Command) → ReachesField tells s.command before s.reached s.part → AccessStage tells before s (field_point_of seat command)
-  field_stage before seat s command reaches = field_point_cases (AccessStage tells before s) seat command reaches (λ on. reaches) (λ off. reaches)
+  field_stage before seat s command reaches = field_point_cases (AccessStage tells before s) seat command reaches (λ on. reaches) (λ off. reaches) (λ on some. reaches) (λ on none some. reaches) (λ none. reaches)
 
   -- the way goes on by links, or was gone
   way_stage : (before : Kept) (seat s : Seat) → s.links ≡ seat.links → GoesByLinks tells s.command before s.reached s.links s.part → AccessStage tells before s (way_point_of seat)

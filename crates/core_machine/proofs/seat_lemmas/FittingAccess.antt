@@ -47,16 +47,16 @@ pub fits_with_address : (heap : Heap) (seat : Seat) (address : Spot) (point : Ac
 fits_with_address heap seat address point rests there way =
     fits_way heap seat seat.reached seat.links seat.part address seat.loaded point rests rests.fits.way.reached_within there rests.fits.way.loaded_within way
 
--- the call is over, with these registers and so many sets
-pub fits_after_sets : (heap : Heap) (seat : Seat) (registers : List Register) (sets : ℕ) → Rests heap seat → length registers ≡ 16
-    → All (FitsRegister heap) registers → Fits heap (after_call (record seat { registers = registers; sets = sets }))
-fits_after_sets heap seat registers sets rests whole fit =
+-- the call is over, with these registers, seen under these stamps, and so many sets
+pub fits_after_sets : (heap : Heap) (seat : Seat) (registers : List Register) (seen : List ℕ) (sets : ℕ) → Rests heap seat → length registers ≡ 16
+    → All (FitsRegister heap) registers → Fits heap (after_call (record seat { registers = registers; seen = seen; sets = sets }))
+fits_after_sets heap seat registers seen sets rests whole fit =
     let fits = rests.fits in
-    fits_after_call heap (record seat { registers = registers; sets = sets }) whole fit fits.own.cursor_within fits.own.small_reserve fits.own.reserve_of_cursor (left_aside_is_absurd rests.present)
+    fits_after_call heap (record seat { registers = registers; seen = seen; sets = sets }) whole fit fits.own.cursor_within fits.own.small_reserve fits.own.reserve_of_cursor (left_aside_is_absurd rests.present)
 
 -- a register got another value, and the call is over
-pub fits_with_register : (heap : Heap) (seat : Seat) (register : Register) → Rests heap seat → FitsRegister heap register → Fits heap (with_register_filled seat register)
-fits_with_register heap seat register rests fit =
-    fits_after_sets heap seat (set seat.registers (target_of seat.command) register) seat.sets rests
+pub fits_with_register : (heap : Heap) (seat : Seat) (register : Register) (stamp : ℕ) → Rests heap seat → FitsRegister heap register → Fits heap (with_register_filled seat register stamp)
+fits_with_register heap seat register stamp rests fit =
+    fits_after_sets heap seat (set seat.registers (target_of seat.command) register) (set seat.seen (target_of seat.command) stamp) seat.sets rests
     (length-set seat.registers (target_of seat.command) register ∙ rests.fits.own.registers_whole)
     (All-set (FitsRegister heap) seat.registers (target_of seat.command) register fit rests.fits.own.registers_fit)

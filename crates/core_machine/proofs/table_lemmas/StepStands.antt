@@ -1,9 +1,10 @@
 -- What is asked of each step, a seat's or the collector's.
-use Rattle.std.proofs.Common.{◌≡◌, ℕ, ◌<◌, ◌^◌, sym, subst, arith, ◌*◌, ◌≤◌}
-use Rattle.core_machine.proofs.Terms.{Heap, Step, InTable, FoundPointsWithin, address_of, operation_of, operation_result, word_after}
+use Rattle.std.specs.Prelude.{if◌then◌else◌}
+use Rattle.std.proofs.Common.{◌≡◌, ℕ, ◌==◌, Bool, true, false, ◌<◌, ◌^◌, sym, subst, arith, ◌*◌, ◌≤◌}
+use Rattle.core_machine.proofs.Terms.{Heap, Step, Word, InTable, IsWithinHeap, pointer_in, FoundPointsWithin, address_of, operation_of, operation_result, word_after}
 use Rattle.core_machine.specs.declared.step.operation.Operation.{Operation}
 use Rattle.core_machine.specs.declared.step.operation.Operation.TheVariants.{Load}
-use Rattle.core_machine.specs.declared.step.AccessStep.TheVariants.{Shade}
+use Rattle.core_machine.specs.declared.step.AccessStep.TheVariants.{Shade, CompareSwap}
 use Rattle.core_machine.specs.declared.step.SpineStep.TheVariants.{BudgetAdd, BudgetTakeBack, SpotClaim, SpineStore}
 use Rattle.core_machine.specs.declared.step.Step.TheVariants.{Access, Spine}
 use Rattle.core_machine.proofs.table_lemmas.CellWords.{payload_in-spine_word}
@@ -28,6 +29,19 @@ load_step_stands heap step loads there = record {
 -- a shade of a fragment of the heap
 pub shade_step_stands : (heap : Heap) (fragment : ℕ) → fragment < 16 * heap.groups → StepStands heap (Access (Shade fragment))
 shade_step_stands heap fragment within = record { in_table = omega (arith, within); wide = λ found small. shade_word_fits_bits fragment found small; leads = λ found led. tt }
+
+-- a word that is compared, and exchanged where it is the old one
+pub compared_step_stands : (heap : Heap) (fragment part old new : ℕ) → InTable heap (Word fragment part) → new < 2 ^ 64 → IsWithinHeap heap (pointer_in part new)
+    → StepStands heap (Access (CompareSwap fragment part old new))
+compared_step_stands heap fragment part old new there small led = record {
+  in_table = there;
+  wide = λ found wide. either (λ word. word < 2 ^ 64) (found == old) found small wide;
+  leads = λ found leads. either (λ word. IsWithinHeap heap (pointer_in part word)) (found == old) found led leads;
+}
+  where
+    either : (P : ℕ → Type 0) (same : Bool) (found : ℕ) → P new → P found → P (if same then new else found)
+    either P true found swapped kept = swapped
+    either P false found swapped kept = kept
 
 -- a word that grows or falls modulo 2^64 has 64 bits, and leads nowhere
 pub budget_add_step_stands : (heap : Heap) (words : ℕ) → StepStands heap (Spine (BudgetAdd words))

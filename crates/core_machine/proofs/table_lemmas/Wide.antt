@@ -9,7 +9,7 @@ use Rattle.heap_words.specs.declared.name.Name.{Name}
 use Rattle.heap_words.specs.declared.spot.Spot.{Spot}
 use Rattle.heap_words.specs.Name.{name_word}
 use Rattle.heap_words.specs.Spot.{spot_word}
-use Rattle.core_machine.proofs.Terms.{Heap, Command, New, Array, Set, IsHeap, Register, Nil, Number, Object, register_word, IsSet, MakesObject, newborn_word, FitsSpot}
+use Rattle.core_machine.proofs.Terms.{Heap, Command, New, Array, Set, Cas, IsHeap, Register, Nil, Number, Object, register_word, IsSet, IsCas, MakesObject, newborn_word, FitsSpot}
 use Rattle.core_machine.proofs.Terms.{birth_bits_of, shade_bit_of, blacken_bit_of, HasNumberLeft, AreFragments, FitsRegister, after_name}
 use Rattle.heap_model.specs.Command.{IsCommand}
 use Rattle.heap_words.specs.Newborn.{link_after, head_word_of, record_word_of, spine_word, sentinel_word_of, array_word_of}
@@ -76,6 +76,11 @@ birth_word_fits_bits true bits word small wide = or_lt 64 word (bits * 2 ^ 16 + 
 pub set_has_stamp_left : (command : Command) (made sets : ℕ) → IsSet command → HasNumberLeft made sets command → sets + 1 < 2 ^ 26
 set_has_stamp_left (Set r i v) made sets a_set numbered = numbered
 set_has_stamp_left _ made sets a_set numbered = absurd a_set
+
+-- and so has a compare and swap
+pub cas_has_stamp_left : (command : Command) (made sets : ℕ) → IsCas command → HasNumberLeft made sets command → sets + 1 < 2 ^ 26
+cas_has_stamp_left (Cas r i a v) made sets a_cas numbered = numbered
+cas_has_stamp_left _ made sets a_cas numbered = absurd a_cas
 
 -- what is left of a word is no longer
 pub and_fits_bits : (word bits : ℕ) → word < 2 ^ 64 → bit_and word bits < 2 ^ 64

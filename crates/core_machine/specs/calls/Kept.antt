@@ -10,6 +10,8 @@ use Rattle.core_machine.specs.seat.Seat.{Seat}
 pub record Kept : Type 0 where
   -- the sixteen registers
   pub registers : List Register
+  -- under which stamp each was read from a field
+  pub seen : List ℕ
   -- own fragments that no call uses
   pub reserve : List ℕ
   -- the group at which the next gather begins
@@ -29,6 +31,7 @@ pub record Kept : Type 0 where
 abbrev pub kept_of : Seat → Kept
 kept_of seat = record {
   registers = seat.registers;
+  seen = seat.seen;
   reserve = seat.reserve;
   cursor = seat.cursor;
   answered = seat.answered;

@@ -38,6 +38,7 @@ pub record IsMade (tells : Step → ℕ → Type 0) (heap : Heap) (number : ℕ)
   pub kept_is : kept
       ≡ kept_replied kept.looks.seen (record between {
         registers = slice_set before.registers (target_of command) (Object (slice_index_or body 0 0) id);
+        seen = slice_set before.seen (target_of command) 0;
         made = before.made + 1;
       })
 

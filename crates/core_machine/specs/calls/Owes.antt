@@ -5,7 +5,8 @@ use Rattle.core_machine.specs.declared.point.Point.{Point}
 use Rattle.core_machine.specs.declared.point.Point.TheVariants as points
 use Rattle.core_machine.specs.declared.point.Making.{Making}
 use Rattle.core_machine.specs.declared.point.Access.{Access}
-use Rattle.core_machine.specs.declared.point.Access.TheVariants.{LoadingMeta, Walking, LoadingSpot, Indexing, Getting, Naming, LoadingOld, ShadingOld, ShadingNew, Swapping}
+use Rattle.core_machine.specs.declared.point.Access.TheVariants.{LoadingMeta, Walking, LoadingSpot, Indexing, Getting, Naming, LoadingOld, ShadingOld, ShadingNew, Swapping, ShadingSide, Replacing}
+use Rattle.core_machine.specs.declared.point.Side.TheVariants.{Expected, New}
 use Rattle.core_machine.specs.declared.point.Polling.{Polling}
 use Rattle.core_machine.specs.declared.point.Polling.TheVariants.{Asking, Shading, Answering}
 use Rattle.core_machine.specs.declared.point.Collecting.{Collecting}
@@ -69,6 +70,9 @@ access_steps rows links LoadingOld = 4
 access_steps rows links ShadingOld = 3
 access_steps rows links ShadingNew = 2
 access_steps rows links Swapping = 1
+access_steps rows links (ShadingSide Expected) = 3
+access_steps rows links (ShadingSide New) = 2
+access_steps rows links Replacing = 1
 
 -- and a poll
 abbrev pub polling_steps : Seat → Polling → ℕ

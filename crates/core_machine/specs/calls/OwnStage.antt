@@ -11,7 +11,7 @@ use Rattle.core_machine.specs.calls.Making.{HasObject, HasSpine, name_after, Has
 use Rattle.core_machine.specs.calls.Reaching.{GoesByLinks, GoesBySpine, HasLocated, ReachesField}
 use Rattle.core_machine.specs.calls.Replies.{IsAnswered}
 use Rattle.core_machine.specs.declared.point.Access.{Access}
-use Rattle.core_machine.specs.declared.point.Access.TheVariants.{LoadingMeta, Walking, LoadingSpot, Indexing, Getting, Naming, LoadingOld, ShadingOld, ShadingNew, Swapping}
+use Rattle.core_machine.specs.declared.point.Access.TheVariants.{LoadingMeta, Walking, LoadingSpot, Indexing, Getting, Naming, LoadingOld, ShadingOld, ShadingNew, Swapping, ShadingSide, Replacing}
 use Rattle.core_machine.specs.declared.point.Leaving.{Leaving}
 use Rattle.core_machine.specs.declared.point.Leaving.TheVariants as leaving
 use Rattle.core_machine.specs.declared.point.Making.{Making}
@@ -67,6 +67,8 @@ AccessStage tells before seat LoadingOld = ReachesField tells seat.command befor
 AccessStage tells before seat ShadingOld = ReachesField tells seat.command before seat.reached seat.part
 AccessStage tells before seat ShadingNew = ReachesField tells seat.command before seat.reached seat.part
 AccessStage tells before seat Swapping = ReachesField tells seat.command before seat.reached seat.part
+AccessStage tells before seat (ShadingSide side) = ReachesField tells seat.command before seat.reached seat.part
+AccessStage tells before seat Replacing = ReachesField tells seat.command before seat.reached seat.part
 
 -- the phase was loaded, which the seat is about to answer
 pub record HasAsked (tells : Step → ℕ → Type 0) (before kept : Kept) (asked : ℕ) (told : List Entry) : Type 0 where

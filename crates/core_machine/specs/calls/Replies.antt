@@ -16,19 +16,19 @@ use Rattle.core_machine.specs.declared.step.Step.TheVariants as steps
 use Rattle.core_machine.specs.calls.Kept.{Kept, kept_replied}
 use Rattle.core_machine.specs.machine.Calls.{IsBeside}
 use Rattle.core_machine.specs.seat.FitsHandshake.{IsLocal}
-use Rattle.core_machine.specs.seat.Local.{local_reply_of, local_registers}
+use Rattle.core_machine.specs.seat.Local.{local_reply_of, local_registers, local_seen}
 pub use Rattle.core_machine.specs.calls.ObjectReplies.{IsMade, IsFull, IsSpineFull}
-pub use Rattle.core_machine.specs.calls.FieldReplies.{IsHeldOf, IsGot, IsSetTo, HasNoField, HasLength}
+pub use Rattle.core_machine.specs.calls.FieldReplies.{IsHeldOf, IsGot, IsSetTo, IsSwapped, HasOther, HasNoField, HasLength}
 
 -- the call looked at no word: the registers give the reply, and what they are after it
 pub record AnswersLocally (command : Command) (before kept : Kept) (reply : Reply) : Type 0 where
   pub local : IsLocal before.registers command
   pub reply_is : reply ≡ local_reply_of before.registers command
-  pub kept_is : kept ≡ kept_replied kept.looks.seen (record before { registers = local_registers before.registers command })
+  pub kept_is : kept ≡ kept_replied kept.looks.seen (record before { registers = local_registers before.registers command; seen = local_seen before.seen command })
 
 -- a seat that has left keeps nothing
 abbrev pub HasLeft : Kept → Kept → Type 0
-HasLeft before kept = kept ≡ kept_replied kept.looks.seen (record before { registers = replicate register_count Nil; reserve = []; left = true })
+HasLeft before kept = kept ≡ kept_replied kept.looks.seen (record before { registers = replicate register_count Nil; seen = replicate register_count 0; reserve = []; left = true })
 
 -- the seat has left, or the registers are as the command says
 abbrev pub IsDoneBy : Kept → Kept → Command → Type 0
@@ -48,7 +48,8 @@ StandsOn tells heap number command before kept told replies.Yes = AnswersLocally
 StandsOn tells heap number command before kept told replies.No = AnswersLocally command before kept replies.No
 StandsOn tells heap number command before kept told (replies.Made id) = IsMade tells heap number command before kept told id
 StandsOn tells heap number command before kept told (replies.Got value stamp) = IsGot tells command before kept value stamp
-StandsOn tells heap number command before kept told (replies.Was stamp) = IsSetTo tells number command before kept stamp
+StandsOn tells heap number command before kept told (replies.Was stamp) = IsSetTo tells number command before kept stamp ⊎ IsSwapped tells number command before kept stamp
+StandsOn tells heap number command before kept told (replies.Now stamp) = HasOther tells number command before kept stamp
 StandsOn tells heap number command before kept told (replies.Length n) = HasLength tells command before kept n
 StandsOn tells heap number command before kept told (replies.Phase p) = HasPhase tells command before kept p
 StandsOn tells heap number command before kept told (replies.Cycle j) = ⊥

@@ -70,9 +70,10 @@ free_count heap words = sum_upto heap.groups (λ group. length (clear_in group (
 abbrev pub within_reach : Heap → State → ℕ → ℕ
 within_reach heap state number = length (seat_at state number).reserve + free_count heap state.words
 
--- registers, reserve, cursor and the number of objects made are as before
+-- registers with their stamps, reserve, cursor and the number of objects made are as before
 pub record KeepsOwn (old new : Seat) : Type 0 where
   pub registers_stay : new.registers ≡ old.registers
+  pub seen_stays : new.seen ≡ old.seen
   pub reserve_stays : new.reserve ≡ old.reserve
   pub cursor_stays : new.cursor ≡ old.cursor
   pub made_stays : new.made ≡ old.made

@@ -50,6 +50,7 @@ call_start heap seat (commands.New d fields) = gather_next heap seat
 call_start heap seat (commands.Array d cells) = record seat { point = Making Granting }
 call_start heap seat (commands.Get d r i) = access_start seat (register_in seat.registers r)
 call_start heap seat (commands.Set r i v) = access_start seat (register_in seat.registers r)
+call_start heap seat (commands.Cas r i a v) = access_start seat (register_in seat.registers r)
 call_start heap seat (commands.Num d n) = record seat { point = Local }
 call_start heap seat (commands.Nil d) = record seat { point = Local }
 call_start heap seat (commands.Copy d r) = record seat { point = Local }

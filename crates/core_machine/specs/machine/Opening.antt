@@ -8,7 +8,7 @@ use Rattle.heap_words.specs.Spot.{spot_word}
 use Rattle.heap_model.specs.declared.heap.Heap.{Heap}
 use Rattle.heap_model.specs.declared.id.Id.TheVariants as ids
 use Rattle.heap_model.specs.Board.{board_fields, board_fragments}
-use Rattle.heap_model.specs.Limits.{last_register}
+use Rattle.heap_model.specs.Limits.{last_register, register_count}
 use Rattle.core_machine.specs.declared.table.address.Address.{Address}
 use Rattle.core_machine.specs.declared.table.address.Address.TheVariants.{Phase, Answer, Budget, Spot, Control, Word, Spine}
 use Rattle.core_machine.specs.declared.seat.register.Register.TheVariants.{Nil, Object}
@@ -73,7 +73,7 @@ with_board heap count (Spine half offset) word = word
 -- a seat at the opening: register 0 holds the board, and the seats' cursors stand at different groups, as far as there are enough
 abbrev pub opening_seat : Heap → ℕ → Seat
 opening_seat heap number =
-    record absent_seat { registers = Object 0 ids.Board ∷ replicate last_register Nil; cursor = number % heap.groups; left = false }
+    record absent_seat { registers = Object 0 ids.Board ∷ replicate last_register Nil; seen = replicate register_count 0; cursor = number % heap.groups; left = false }
 
 -- the state is the one in which the heap opens
 pub record IsOpening (heap : Heap) (state : State) : Type 0 where

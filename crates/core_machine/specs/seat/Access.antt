@@ -1,5 +1,5 @@
 -- How a seat goes on while it reads or writes an object: the way to the field, and what is done with it.
-use Rattle.std.specs.Prelude.{ℕ, ◌+◌, ◌-◌, ◌/◌, ◌%◌, ◌==◌, nat_lt, nat_le, Bool, false, if◌then◌else◌, Option, Some, None, slice_set}
+use Rattle.std.specs.Prelude.{ℕ, ◌+◌, ◌-◌, ◌/◌, ◌%◌, ◌==◌, nat_lt, nat_le, Bool, false, if◌then◌else◌, Option, Some, None}
 use Rattle.heap_words.specs.Spot.{spot_in}
 use Rattle.heap_model.specs.declared.command.Command.{Command}
 use Rattle.heap_model.specs.declared.command.Command.TheVariants as commands
@@ -9,14 +9,16 @@ use Rattle.heap_model.specs.declared.reply.Reply.TheVariants.{Length, NoField}
 use Rattle.heap_model.specs.PhasePlan.{cycle_phases, barriers, clearing}
 use Rattle.core_machine.specs.declared.point.Point.TheVariants as points
 use Rattle.core_machine.specs.declared.point.Access.{Access}
-use Rattle.core_machine.specs.declared.point.Access.TheVariants.{LoadingMeta, Walking, LoadingSpot, Indexing, Getting, Naming, LoadingOld, ShadingOld, ShadingNew, Swapping}
+use Rattle.core_machine.specs.declared.point.Access.TheVariants.{LoadingMeta, Walking, LoadingSpot, Indexing, Getting, Naming, LoadingOld, ShadingOld, ShadingNew, Swapping, ShadingSide, Replacing}
+use Rattle.core_machine.specs.declared.point.Side.{Side}
+use Rattle.core_machine.specs.declared.point.Side.TheVariants.{Expected, New}
 use Rattle.core_machine.specs.declared.seat.register.Register.{Register}
 use Rattle.core_machine.specs.declared.seat.register.Register.TheVariants.{Nil, Number, Object}
-use Rattle.core_machine.specs.seat.Commands.{target_of, source_of, field_of}
-use Rattle.heap_words.specs.Loaded.{link_of, length_of, array_length_of, payload_in}
+use Rattle.core_machine.specs.seat.Commands.{target_of, source_of, expected_of, field_of}
+use Rattle.heap_words.specs.Loaded.{link_of, stamp_of, length_of, array_length_of, payload_in}
 use Rattle.core_machine.specs.table.Decode.{plain_of}
 use Rattle.core_machine.specs.seat.Registers.{register_in, register_head}
-use Rattle.core_machine.specs.seat.Seat.{Seat, after_call}
+use Rattle.core_machine.specs.seat.Seat.{Seat, with_held, after_call}
 
 -- the row in which a record's field stands: 0 is the object's first fragment, 1 its second
 abbrev pub row_of : ℕ → ℕ
@@ -35,9 +37,9 @@ has_barrier_of seat =
 abbrev pub at_access : Seat → Access → Seat
 at_access seat point = record seat { point = points.Access point }
 
--- the command's register has another value, and the call is over
-abbrev pub with_register_filled : Seat → Register → Seat
-with_register_filled seat register = after_call (record seat { registers = slice_set seat.registers (target_of seat.command) register })
+-- the command's register has another value, seen under this stamp, and the call is over
+abbrev pub with_register_filled : Seat → Register → ℕ → Seat
+with_register_filled seat register stamp = after_call (with_held seat (target_of seat.command) register stamp)
 
 -- the way begins at the object's first fragment; without an object the reply is told at once
 abbrev pub access_start : Seat → Register → Seat
@@ -46,12 +48,36 @@ access_start seat (Object head id) =
 access_start seat Nil = record seat { point = points.Local }
 access_start seat (Number n) = record seat { point = points.Local }
 
--- what is done at the field: a get loads it, a set loads it where the barrier is on, and else swaps; no other command comes there
+-- the number of the register with this value of a compare and swap
+abbrev pub side_of : Side → Command → ℕ
+side_of Expected command = expected_of command
+side_of New command = source_of command
+
+-- the register with this value
+abbrev pub side_register_of : Seat → Side → Register
+side_register_of seat side = register_in seat.registers (side_of side seat.command)
+
+-- a compare and swap shades the value that it puts into the field, where that is an object; then it compares
+abbrev pub offer_point_of : Option ℕ → Access
+offer_point_of None = Replacing
+offer_point_of (Some head) = ShadingSide New
+
+-- but first it shades the value that it expects there, where that is an object
+abbrev pub expect_point_of : Option ℕ → Option ℕ → Access
+expect_point_of None new = offer_point_of new
+expect_point_of (Some head) new = ShadingSide Expected
+
+-- where a compare and swap with the barrier on goes from its field
+abbrev pub guard_point_of : Seat → Access
+guard_point_of seat = expect_point_of (register_head (side_register_of seat Expected)) (register_head (side_register_of seat New))
+
+-- what is done at the field: a get loads it; where the barrier is on a set loads it and a compare and swap shades, and else they swap; no other command comes there
 abbrev pub field_point_of : Seat → Command → Access
 field_point_of seat (commands.New d fields) = Getting
 field_point_of seat (commands.Array d cells) = Getting
 field_point_of seat (commands.Get d r i) = Getting
 field_point_of seat (commands.Set r i v) = if has_barrier_of seat then LoadingOld else Swapping
+field_point_of seat (commands.Cas r i a v) = if has_barrier_of seat then guard_point_of seat else Replacing
 field_point_of seat (commands.Num d n) = Getting
 field_point_of seat (commands.Nil d) = Getting
 field_point_of seat (commands.Copy d r) = Getting
@@ -84,6 +110,7 @@ meta_reply_of (commands.New d fields) found = None
 meta_reply_of (commands.Array d cells) found = None
 meta_reply_of (commands.Get d r i) found = field_reply_of i found
 meta_reply_of (commands.Set r i v) found = field_reply_of i found
+meta_reply_of (commands.Cas r i a v) found = field_reply_of i found
 meta_reply_of (commands.Num d n) found = None
 meta_reply_of (commands.Nil d) found = None
 meta_reply_of (commands.Copy d r) found = None
@@ -125,12 +152,12 @@ after_index seat found = at_access (at_payload seat found) (field_point_of (at_p
 
 -- a get's field was found: a number or nil stands in the register, a reference waits for its object's name
 abbrev pub after_get : Seat → ℕ → Option ℕ → Seat
-after_get seat found None = with_register_filled seat (plain_of found)
+after_get seat found None = with_register_filled seat (plain_of found) (stamp_of found)
 after_get seat found (Some head) = at_access (record seat { loaded = found }) Naming
 
 -- the name was found
 abbrev pub after_name : Seat → ℕ → Id → Seat
-after_name seat head id = with_register_filled seat (Object head id)
+after_name seat head id = with_register_filled seat (Object head id) (stamp_of seat.loaded)
 
 -- the new value is shaded where it is an object; then comes the swap
 abbrev pub new_point_of : Option ℕ → Access
@@ -149,3 +176,12 @@ after_old_load seat (Some head) = at_access seat ShadingOld
 -- the field has its new word
 abbrev pub after_swap : Seat → Seat
 after_swap seat = after_call (record seat { sets = seat.sets + 1 })
+
+-- a value of a compare and swap was shaded
+abbrev pub after_side : Seat → Side → Seat
+after_side seat Expected = at_access seat (offer_point_of (register_head (side_register_of seat New)))
+after_side seat New = at_access seat Replacing
+
+-- the field has its new word, where it had the expected one
+abbrev pub after_replace : Seat → Bool → Seat
+after_replace seat expected = if expected then after_swap seat else after_call seat

@@ -1,25 +1,27 @@
 -- The moves by which an object is read or written, a row per point.
-use Rattle.std.specs.Prelude.{ℕ, ◌+◌, ◌/◌, List, [], ◌∷◌, Option, Some, None, unwrap_or}
+use Rattle.std.specs.Prelude.{ℕ, ◌+◌, ◌/◌, ◌==◌, Bool, if◌then◌else◌, List, [], ◌∷◌, Option, Some, None, unwrap_or}
 use Rattle.heap_model.specs.declared.heap.Heap.{Heap}
 use Rattle.heap_model.specs.declared.entry.Entry.{Entry}
 use Rattle.heap_model.specs.declared.entry.Entry.TheVariants.{Said}
 use Rattle.heap_model.specs.declared.id.Value.TheVariants.{Object}
 use Rattle.heap_model.specs.declared.reply.Reply.{Reply}
-use Rattle.heap_model.specs.declared.reply.Reply.TheVariants.{Got, Was}
+use Rattle.heap_model.specs.declared.reply.Reply.TheVariants.{Got, Was, Now}
 use Rattle.heap_model.specs.graph.Growth.{set_stamp}
 use Rattle.core_machine.specs.declared.table.address.Address.TheVariants.{Word}
 use Rattle.core_machine.specs.declared.point.Access.{Access}
-use Rattle.core_machine.specs.declared.point.Access.TheVariants.{LoadingMeta, Walking, LoadingSpot, Indexing, Getting, Naming, LoadingOld, ShadingOld, ShadingNew, Swapping}
+use Rattle.core_machine.specs.declared.point.Access.TheVariants.{LoadingMeta, Walking, LoadingSpot, Indexing, Getting, Naming, LoadingOld, ShadingOld, ShadingNew, Swapping, ShadingSide, Replacing}
+use Rattle.core_machine.specs.declared.point.Side.{Side}
+use Rattle.core_machine.specs.declared.point.Side.TheVariants.{Expected}
 use Rattle.core_machine.specs.declared.seat.register.Register.{Register}
 use Rattle.core_machine.specs.declared.step.Step.TheVariants as steps
-use Rattle.core_machine.specs.declared.step.AccessStep.TheVariants.{WalkLoad, NameLoad, GetLoad, OldLoad, Shade, Swap}
+use Rattle.core_machine.specs.declared.step.AccessStep.TheVariants.{WalkLoad, NameLoad, GetLoad, OldLoad, Shade, Swap, CompareSwap}
 use Rattle.core_machine.specs.declared.step.SpineStep.TheVariants.{AddressLoad, WordLoad}
-use Rattle.core_machine.specs.seat.Commands.{source_of, field_of}
+use Rattle.core_machine.specs.seat.Commands.{source_of, expected_of, field_of}
 use Rattle.core_machine.specs.table.Layout.{at}
 use Rattle.heap_words.specs.Loaded.{head_of, stamp_of}
 use Rattle.core_machine.specs.table.Decode.{id_of, plain_of}
-use Rattle.core_machine.specs.seat.Access.{after_walk, meta_reply_of, after_meta, after_address, after_index, after_get, after_name, after_old, after_old_load, at_access, after_swap}
-use Rattle.core_machine.specs.seat.Registers.{register_in, register_word, register_head, value_of}
+use Rattle.core_machine.specs.seat.Access.{after_walk, meta_reply_of, after_meta, after_address, after_index, after_get, after_name, after_old, after_old_load, at_access, after_swap, side_register_of, after_side, after_replace}
+use Rattle.core_machine.specs.seat.Registers.{register_in, seen_in, register_word, register_head, value_of}
 use Rattle.core_machine.specs.seat.Seat.{Seat}
 use Rattle.core_machine.specs.Move.{Move, plain_move}
 
@@ -117,6 +119,25 @@ swap_move number seat =
     plain_move (steps.Access (Swap seat.reached seat.part (new_word_of number seat))) (λ found. after_swap seat)
     (λ found. reply_entries number seat (Was (stamp_of found)))
 
+-- a value of a compare and swap is shaded
+abbrev pub shade_side_move : Seat → Side → Move
+shade_side_move seat side =
+    plain_move (steps.Access (Shade (unwrap_or (register_head (side_register_of seat side)) 0))) (λ found. after_side seat side) (λ found. [])
+
+-- the word that is expected in the field: the register's value under the stamp that it was seen under
+abbrev pub old_word_of : Seat → ℕ
+old_word_of seat = register_word (side_register_of seat Expected) (seen_in seat.seen (expected_of seat.command))
+
+-- the reply of a compare and swap, by whether the word found was the expected one
+abbrev pub replaced_reply : ℕ → Bool → Reply
+replaced_reply found expected = if expected then Was (stamp_of found) else Now (stamp_of found)
+
+-- the field's word is compared with the expected one, and exchanged where it is that
+abbrev pub replace_move : ℕ → Seat → Move
+replace_move number seat =
+    plain_move (steps.Access (CompareSwap seat.reached seat.part (old_word_of seat) (new_word_of number seat)))
+    (λ found. after_replace seat (found == old_word_of seat)) (λ found. reply_entries number seat (replaced_reply found (found == old_word_of seat)))
+
 -- the move at each point of access
 abbrev pub access_move : Heap → ℕ → Seat → Access → Move
 access_move heap number seat LoadingMeta = open_move number seat
@@ -129,3 +150,5 @@ access_move heap number seat LoadingOld = old_move seat
 access_move heap number seat ShadingOld = shade_old_move seat
 access_move heap number seat ShadingNew = shade_new_move seat
 access_move heap number seat Swapping = swap_move number seat
+access_move heap number seat (ShadingSide side) = shade_side_move seat side
+access_move heap number seat Replacing = replace_move number seat

@@ -7,7 +7,7 @@ use Rattle.heap_model.specs.declared.reply.Reply.TheVariants.{Got}
 use Rattle.core_machine.specs.declared.table.address.Address.TheVariants.{Word}
 use Rattle.core_machine.specs.declared.point.Point.{Point}
 use Rattle.core_machine.specs.declared.point.Point.TheVariants as points
-use Rattle.core_machine.specs.declared.point.Access.TheVariants.{LoadingMeta, Walking, LoadingSpot, Indexing, Getting, Naming, LoadingOld, ShadingOld, ShadingNew, Swapping}
+use Rattle.core_machine.specs.declared.point.Access.TheVariants.{LoadingMeta, Walking, LoadingSpot, Indexing, Getting, Naming, LoadingOld, ShadingOld, ShadingNew, Swapping, ShadingSide, Replacing}
 use Rattle.core_machine.specs.table.Layout.{at}
 use Rattle.heap_words.specs.Loaded.{stamp_of}
 use Rattle.core_machine.specs.table.Decode.{id_of}
@@ -27,6 +27,8 @@ entries_awaited_at heap words number seat (points.Access LoadingOld) = []
 entries_awaited_at heap words number seat (points.Access ShadingOld) = []
 entries_awaited_at heap words number seat (points.Access ShadingNew) = []
 entries_awaited_at heap words number seat (points.Access Swapping) = []
+entries_awaited_at heap words number seat (points.Access (ShadingSide side)) = []
+entries_awaited_at heap words number seat (points.Access Replacing) = []
 entries_awaited_at heap words number seat points.Idle = []
 entries_awaited_at heap words number seat (points.Making point) = []
 entries_awaited_at heap words number seat points.Local = []

@@ -2,14 +2,14 @@
 use Rattle.std.specs.Prelude.{◌≡◌, ℕ, ◌<◌, true, false, List, Some, IsSome}
 use Rattle.heap_words.specs.declared.spot.Spot.{Spot}
 use Rattle.heap_model.specs.declared.command.Command.{Command}
-use Rattle.heap_model.specs.declared.command.Command.TheVariants.{Get, Set, Len}
+use Rattle.heap_model.specs.declared.command.Command.TheVariants.{Get, Set, Cas, Len}
 use Rattle.heap_model.specs.Command.{IsCommand}
 use Rattle.core_machine.specs.declared.point.Access.{Access}
-use Rattle.core_machine.specs.declared.point.Access.TheVariants.{LoadingMeta, Walking, LoadingSpot, Indexing, Getting, Naming, LoadingOld, ShadingOld, ShadingNew, Swapping}
+use Rattle.core_machine.specs.declared.point.Access.TheVariants.{LoadingMeta, Walking, LoadingSpot, Indexing, Getting, Naming, LoadingOld, ShadingOld, ShadingNew, Swapping, ShadingSide, Replacing}
 use Rattle.core_machine.specs.declared.seat.register.Register.{Register}
 use Rattle.core_machine.specs.seat.Commands.{object_of, source_of, field_of}
 use Rattle.heap_words.specs.Loaded.{head_of}
-use Rattle.core_machine.specs.seat.Access.{row_of, has_barrier_of}
+use Rattle.core_machine.specs.seat.Access.{row_of, has_barrier_of, side_register_of}
 use Rattle.core_machine.specs.seat.Registers.{register_in, register_head}
 use Rattle.core_machine.specs.seat.Seat.{Seat, no_spot, HasNumberLeft}
 
@@ -35,10 +35,16 @@ abbrev pub IsSet : Command → Type 0
 IsSet (Set r i v) = Unit {0}
 IsSet _ = ⊥
 
+-- the command is a compare and swap
+abbrev pub IsCas : Command → Type 0
+IsCas (Cas r i a v) = Unit {0}
+IsCas _ = ⊥
+
 -- the command works on an object
 abbrev pub NamesObject : Command → Type 0
 NamesObject (Get d r i) = Unit {0}
 NamesObject (Set r i v) = Unit {0}
+NamesObject (Cas r i a v) = Unit {0}
 NamesObject (Len r) = Unit {0}
 NamesObject _ = ⊥
 
@@ -46,9 +52,10 @@ NamesObject _ = ⊥
 abbrev pub NamesField : Command → Type 0
 NamesField (Get d r i) = Unit {0}
 NamesField (Set r i v) = Unit {0}
+NamesField (Cas r i a v) = Unit {0}
 NamesField _ = ⊥
 
--- the command is in range, a stamp is left for a set, and the register that the command names holds an object
+-- the command is in range, a stamp is left for a field that it sets, and the register that the command names holds an object
 pub record HoldsObject (registers : List Register) (made sets : ℕ) (command : Command) : Type 0 where
   pub in_range : IsCommand command
   pub numbered : HasNumberLeft made sets command
@@ -109,6 +116,10 @@ SeatIsAtGet seat = WorksOnObject seat × IsGet seat.command × IsAtField seat.li
 abbrev pub SeatIsAtSet : Seat → Type 0
 SeatIsAtSet seat = WorksOnObject seat × IsSet seat.command × IsAtField seat.links seat.part
 
+-- the field was reached by a compare and swap, which loads nothing
+abbrev pub SeatIsAtCas : Seat → Type 0
+SeatIsAtCas seat = WorksOnObject seat × IsCas seat.command × IsAtField seat.links seat.part × (seat.loaded ≡ 0)
+
 -- what is true of the seat's data at each point of access
 abbrev pub FitsAccess : Seat → Access → Type 0
 FitsAccess seat LoadingMeta = SeatIsAtHead seat
@@ -122,3 +133,5 @@ FitsAccess seat ShadingOld = SeatIsAtSet seat × (has_barrier_of seat ≡ true) 
 FitsAccess seat ShadingNew =
     SeatIsAtSet seat × (has_barrier_of seat ≡ true) × IsSome (register_head (register_in seat.registers (source_of seat.command)))
 FitsAccess seat Swapping = SeatIsAtSet seat × (has_barrier_of seat ≡ false → seat.loaded ≡ 0)
+FitsAccess seat (ShadingSide side) = SeatIsAtCas seat × (has_barrier_of seat ≡ true) × IsSome (register_head (side_register_of seat side))
+FitsAccess seat Replacing = SeatIsAtCas seat

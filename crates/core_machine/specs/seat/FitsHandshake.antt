@@ -19,6 +19,7 @@ IsLocal registers (commands.Copy d r) = Unit {0}
 IsLocal registers (commands.Same a b) = Unit {0}
 IsLocal registers (commands.Get d r i) = register_head (register_in registers r) ≡ None
 IsLocal registers (commands.Set r i v) = register_head (register_in registers r) ≡ None
+IsLocal registers (commands.Cas r i a v) = register_head (register_in registers r) ≡ None
 IsLocal registers (commands.Len r) = register_head (register_in registers r) ≡ None
 IsLocal registers _ = ⊥
 

@@ -53,4 +53,4 @@ after_emptying seat = record seat { reserve = []; point = points.Leaving leaving
 
 -- the seat has left
 abbrev pub after_leave : Seat → Seat
-after_leave seat = after_call (record seat { registers = replicate register_count Nil; left = true })
+after_leave seat = after_call (record seat { registers = replicate register_count Nil; seen = replicate register_count 0; left = true })

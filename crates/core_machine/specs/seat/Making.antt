@@ -1,5 +1,5 @@
 -- How a seat goes on while it makes an object: gathering, refusing, storing, bearing.
-use Rattle.std.specs.Prelude.{ℕ, ◌+◌, ◌-◌, ◌*◌, ◌/◌, ◌%◌, ◌==◌, nat_lt, nat_le, if◌then◌else◌, List, [], ◌∷◌, ◌++◌, length, take, drop, slice_index_or, slice_set}
+use Rattle.std.specs.Prelude.{ℕ, ◌+◌, ◌-◌, ◌*◌, ◌/◌, ◌%◌, ◌==◌, nat_lt, nat_le, if◌then◌else◌, List, [], ◌∷◌, ◌++◌, length, take, drop, slice_index_or}
 use Rattle.std.specs.List.{suffix_len}
 use Rattle.heap_words.specs.declared.name.Name.{Name}
 use Rattle.heap_words.specs.declared.spot.Spot.{Spot}
@@ -17,7 +17,7 @@ use Rattle.core_machine.specs.declared.seat.register.Register.TheVariants.{Objec
 use Rattle.core_machine.specs.seat.Commands.{target_of, fields_of}
 use Rattle.core_machine.specs.table.Fragments.{in_group, inside_group, outside_group, clear_in}
 use Rattle.heap_words.specs.Newborn.{record_word_of, array_word_of}
-use Rattle.core_machine.specs.seat.Seat.{Seat, need, spine_need, after_call}
+use Rattle.core_machine.specs.seat.Seat.{Seat, need, spine_need, with_held, after_call}
 
 -- the group that is claimed next: from the cursor's on, wrapping at the last
 abbrev pub next_group_of : Heap → Seat → ℕ
@@ -144,7 +144,5 @@ after_birth seat = record seat { hand = before_run seat.hand }
 
 -- the last fragments were born: the register holds the new object
 abbrev pub after_last_birth : ℕ → Seat → Seat
-after_last_birth number seat = after_call (record seat {
-  registers = slice_set seat.registers (target_of seat.command) (Object (slice_index_or seat.body 0 0) (next_object_id number seat));
-  made = seat.made + 1;
-})
+after_last_birth number seat =
+    after_call (record (with_held seat (target_of seat.command) (Object (slice_index_or seat.body 0 0) (next_object_id number seat)) 0) { made = seat.made + 1 })

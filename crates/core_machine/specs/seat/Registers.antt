@@ -16,6 +16,10 @@ use Rattle.core_machine.specs.declared.seat.register.Register.TheVariants.{Nil, 
 abbrev pub register_in : List Register → ℕ → Register
 register_in registers r = slice_index_or registers r Nil
 
+-- the stamp under which the register of this number was seen
+abbrev pub seen_in : List ℕ → ℕ → ℕ
+seen_in seen r = slice_index_or seen r 0
+
 -- the value that a register holds
 abbrev pub value_of : Register → Value
 value_of Nil = values.Nil

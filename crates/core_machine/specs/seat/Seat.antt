@@ -1,5 +1,5 @@
 -- What the machine keeps of a seat. The seat's number is its position among the seats, and stands nowhere in it.
-use Rattle.std.specs.Prelude.{ℕ, ◌+◌, ◌<◌, Bool, true, List, [], ◌∷◌, ◌++◌}
+use Rattle.std.specs.Prelude.{ℕ, ◌+◌, ◌<◌, Bool, true, List, [], ◌∷◌, ◌++◌, slice_set}
 use Rattle.heap_words.specs.declared.spot.Spot.{Spot}
 use Rattle.heap_model.specs.declared.entry.Entry.{Entry}
 use Rattle.heap_model.specs.declared.entry.Entry.TheVariants.{Said}
@@ -22,6 +22,8 @@ no_spot = record { half = 0; offset = 0 }
 pub record Seat : Type 0 where
   -- the sixteen registers
   pub registers : List Register
+  -- under which stamp each was read from a field; 0 where it wasn't read from one
+  pub seen : List ℕ
   -- own fragments that no call uses, all of the cursor's group
   pub reserve : List ℕ
   -- the group at which the next gather begins
@@ -64,7 +66,7 @@ pub record Seat : Type 0 where
   pub asked : ℕ
   -- how many objects of its registers it has shaded for that
   pub shaded : ℕ
-  -- how many sets it did
+  -- how many sets it did, its compare and swaps that swapped among them
   pub sets : ℕ
   -- what it found out by the inner calls of its collects
   pub looks : Looks
@@ -77,6 +79,7 @@ pub record Seat : Type 0 where
 abbrev pub absent_seat : Seat
 absent_seat = record {
   registers = [];
+  seen = [];
   reserve = [];
   cursor = 0;
   hand = [];
@@ -112,12 +115,13 @@ need seat = need_of seat.command
 abbrev pub spine_need : Seat → ℕ
 spine_need seat = spine_need_of seat.command
 
--- where so many objects were made and sets done, a name is left for the object that the command makes, or a stamp for its set
+-- where so many objects were made and sets done, a name is left for the object that the command makes, or a stamp for the field that it sets
 abbrev pub HasNumberLeft : ℕ → ℕ → Command → Type 0
 HasNumberLeft made sets (commands.New d fields) = made + 1 < name_limit
 HasNumberLeft made sets (commands.Array d cells) = made + 1 < name_limit
 HasNumberLeft made sets (commands.Get d r i) = Unit {0}
 HasNumberLeft made sets (commands.Set r i v) = sets + 1 < stamp_limit
+HasNumberLeft made sets (commands.Cas r i a v) = sets + 1 < stamp_limit
 HasNumberLeft made sets (commands.Num d n) = Unit {0}
 HasNumberLeft made sets (commands.Nil d) = Unit {0}
 HasNumberLeft made sets (commands.Copy d r) = Unit {0}
@@ -127,6 +131,10 @@ HasNumberLeft made sets commands.Poll = Unit {0}
 HasNumberLeft made sets commands.Collect = Unit {0}
 HasNumberLeft made sets commands.Leave = Unit {0}
 
+-- register d holds this, seen under this stamp
+abbrev pub with_held : Seat → ℕ → Register → ℕ → Seat
+with_held seat d register stamp = record seat { registers = slice_set seat.registers d register; seen = slice_set seat.seen d stamp }
+
 -- the seat has loaded this phase
 abbrev pub with_seen : ℕ → Seat → Seat
 with_seen found seat = record seat { looks = seen_phase found seat.looks }
@@ -135,6 +143,7 @@ with_seen found seat = record seat { looks = seen_phase found seat.looks }
 abbrev pub call_over : Seat → Seat
 call_over seat = record absent_seat {
   registers = seat.registers;
+  seen = seat.seen;
   reserve = seat.reserve;
   cursor = seat.cursor;
   command = seat.command;

@@ -1,5 +1,5 @@
 -- Which word each step touches, and what it does with it.
-use Rattle.std.specs.Prelude.{ℕ, ◌+◌, ◌-◌, ◌/◌, ◌%◌, ◌^◌, bit_and, bit_or}
+use Rattle.std.specs.Prelude.{ℕ, ◌+◌, ◌-◌, ◌/◌, ◌%◌, ◌^◌, ◌==◌, if◌then◌else◌, bit_and, bit_or}
 use Rattle.heap_words.specs.declared.phase.TheConstants.{LEFT}
 use Rattle.heap_words.specs.Spot.{spot_word}
 pub use Rattle.heap_words.specs.Control.{all_taken, all_but_of, word_without_taken, birth_bits_of, shade_bit_of, blacken_bit_of, free_mask_of, marks_cleared}
@@ -7,13 +7,13 @@ use Rattle.heap_model.specs.Limits.{group_fragments}
 use Rattle.core_machine.specs.declared.table.address.Address.{Address}
 use Rattle.core_machine.specs.declared.table.address.Address.TheVariants as addresses
 use Rattle.core_machine.specs.declared.step.operation.Operation.{Operation}
-use Rattle.core_machine.specs.declared.step.operation.Operation.TheVariants.{Load, Store, Exchange, Or, And, Add, Subtract}
+use Rattle.core_machine.specs.declared.step.operation.Operation.TheVariants.{Load, Store, Exchange, CompareExchange, Or, And, Add, Subtract}
 use Rattle.core_machine.specs.declared.step.Step.{Step}
 use Rattle.core_machine.specs.declared.step.Step.TheVariants.{Making, PollLoad, Access, Spine, Handshake, Copying, Turning}
 use Rattle.core_machine.specs.declared.step.MakingStep.{MakingStep}
 use Rattle.core_machine.specs.declared.step.MakingStep.TheVariants.{Claim, GiveBack, NewbornStore, Birth, LastBirth}
 use Rattle.core_machine.specs.declared.step.AccessStep.{AccessStep}
-use Rattle.core_machine.specs.declared.step.AccessStep.TheVariants.{WalkLoad, NameLoad, GetLoad, OldLoad, Shade, Swap}
+use Rattle.core_machine.specs.declared.step.AccessStep.TheVariants.{WalkLoad, NameLoad, GetLoad, OldLoad, Shade, Swap, CompareSwap}
 use Rattle.core_machine.specs.declared.step.SpineStep.{SpineStep}
 use Rattle.core_machine.specs.declared.step.SpineStep.TheVariants.{BudgetAdd, BudgetTakeBack, SpotClaim, SpineStore, AddressLoad, WordLoad}
 use Rattle.core_machine.specs.declared.step.HandshakeStep.{HandshakeStep}
@@ -40,6 +40,7 @@ access_address (GetLoad fragment part) = addresses.Word fragment part
 access_address (OldLoad fragment part) = addresses.Word fragment part
 access_address (Shade fragment) = addresses.Control (fragment / group_fragments)
 access_address (Swap fragment part word) = addresses.Word fragment part
+access_address (CompareSwap fragment part old new) = addresses.Word fragment part
 
 -- the word that a step on spines touches
 abbrev pub spine_address : SpineStep → Address
@@ -103,6 +104,7 @@ access_operation (GetLoad fragment part) = Load
 access_operation (OldLoad fragment part) = Load
 access_operation (Shade fragment) = Or (shade_bit_of fragment)
 access_operation (Swap fragment part word) = Exchange word
+access_operation (CompareSwap fragment part old new) = CompareExchange old new
 
 -- what a step on spines does with its word
 abbrev pub spine_operation : SpineStep → Operation
@@ -155,6 +157,7 @@ abbrev pub operation_result : Operation → ℕ → ℕ
 operation_result Load found = found
 operation_result (Store word) found = word
 operation_result (Exchange word) found = word
+operation_result (CompareExchange old new) found = if found == old then new else found
 operation_result (Or bits) found = bit_or found bits
 operation_result (And bits) found = bit_and found bits
 operation_result (Add number) found = (found + number) % 2 ^ 64

@@ -1,6 +1,6 @@
-ghost use Rattle.std.specs.Prelude.{◌≡◌, ◌+◌, ◌<◌, ◌^◌, IfSome, slice_set};
+ghost use Rattle.std.specs.Prelude.{◌≡◌, ◌+◌, ◌<◌, ◌^◌, IfSome};
 ghost use Rattle.heap_model.specs.Limits.{register_count, most_seats, stamp_limit};
-ghost use Rattle.core_machine.specs.seat.Seat.{with_entries};
+ghost use Rattle.core_machine.specs.seat.Seat.{with_entries, with_held};
 ghost use Rattle.core_machine.specs.seat.Commands.{target_of, source_of};
 ghost use Rattle.heap_words.specs.Loaded.{head_of};
 ghost use Rattle.core_machine.specs.seat.Access.{after_get, after_old, new_point_of};
@@ -61,14 +61,15 @@ impl<L: Entries> SeatParty<L> {
         self.new_register().word(stamp)
     }
 
-    /// The register that the answer goes to has another value.
-    fn fill(&mut self, register: Register)
-        requires { target_of self.old.seat.command < register_count }
-        ensures seat { self.new.seat ≡ record self.old.seat { registers = slice_set self.old.seat.registers (target_of self.old.seat.command) register } }
+    /// The register has another value, seen under this stamp.
+    pub(crate) fn hold(&mut self, d: u8, register: Register, stamp: u32)
+        requires { d < register_count }
+        ensures seat { self.new.seat ≡ with_held self.old.seat d register stamp }
         ensures spare { self.new.spare ≡ self.old.spare }
         ensures forgotten { self.new.forgotten ≡ self.old.forgotten }
     {
-        self.registers[Operands::of(&self.command).target as usize] = register;
+        self.registers[d as usize] = register;
+        self.seen[d as usize] = stamp;
     }
 
     /// Learns the field of a get.
@@ -85,12 +86,14 @@ impl<L: Entries> SeatParty<L> {
             return;
         }
         let register = plain_in(found);
-        self.fill(register);
+        let stamp = stamp_in(found);
+        let target = Operands::of(&self.command).target;
+        self.hold(target, register, stamp);
         self.reply(
             number,
             Reply::Got {
                 value: register.value(),
-                stamp: stamp_in(found),
+                stamp,
             },
         );
     }
@@ -107,7 +110,8 @@ impl<L: Entries> SeatParty<L> {
         let head = self.loaded_head();
         let stamp = stamp_in(self.loaded);
         let id = id_in(found);
-        self.fill(Register::Object { head, id });
+        let target = Operands::of(&self.command).target;
+        self.hold(target, Register::Object { head, id }, stamp);
         self.reply(
             number,
             Reply::Got {

@@ -13,7 +13,7 @@ use crate::seat::commands::Operands;
 use heap_model::limits::STAMP_LIMIT;
 use heap_model::{Command, Heap, Inner};
 
-/// The most sets that a seat does.
+/// The most sets that a seat does, its compare and swaps that swapped among them.
 const MOST_SETS: u32 = STAMP_LIMIT - 1;
 
 /// Whether the machine serves the command.
@@ -26,6 +26,7 @@ fn is_served(command: &Command) -> bool
         | Command::Array { .. }
         | Command::Get { .. }
         | Command::Set { .. }
+        | Command::Cas { .. }
         | Command::Num { .. }
         | Command::Nil { .. }
         | Command::Copy { .. }
@@ -48,13 +49,13 @@ impl<L: Entries> SeatParty<L> {
         !self.left && is_served(command) && command.is_in_range() && self.has_number(command)
     }
 
-    /// Whether a name is left for the object that the command makes, or a stamp for its set.
+    /// Whether a name is left for the object that the command makes, or a stamp for the field that it sets.
     fn has_number(&self, command: &Command) -> bool
         ensures { IsTrue result ↔ HasNumberLeft self.now.seat.made self.now.seat.sets command.now }
     {
         match command {
             Command::New { .. } | Command::Array { .. } => self.made < u32::MAX,
-            Command::Set { .. } => self.sets < MOST_SETS,
+            Command::Set { .. } | Command::Cas { .. } => self.sets < MOST_SETS,
             _ => true,
         }
     }
@@ -73,9 +74,10 @@ impl<L: Entries> SeatParty<L> {
         match command {
             Command::New { .. } => self.go_on(heap),
             Command::Array { .. } => self.point = Point::Making(Making::Granting),
-            Command::Get { .. } | Command::Set { .. } | Command::Len { .. } => {
-                self.open(Operands::of(&command).object);
-            }
+            Command::Get { .. } | Command::Set { .. } | Command::Cas { .. } | Command::Len { .. } =>
+                {
+                    self.open(Operands::of(&command).object);
+                }
             Command::Poll => self.point = Point::Polling(Polling::Asking),
             Command::Leave => self.go(),
             Command::Num { .. }

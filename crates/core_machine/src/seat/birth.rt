@@ -144,7 +144,8 @@ impl<L: Entries> SeatParty<L> {
             count: self.made,
         };
         let head = self.body()[0];
-        self.registers[Operands::of(&self.command).target as usize] = Register::Object { head, id };
+        let target = Operands::of(&self.command).target;
+        self.hold(target, Register::Object { head, id }, 0);
         self.made += 1;
         self.reply(number, Reply::Made(id));
     }

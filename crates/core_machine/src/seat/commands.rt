@@ -12,6 +12,8 @@ pub struct Operands {
     pub object: u8,
     /// The register whose value is taken.
     pub source: u8,
+    /// The register whose value is expected in the field.
+    pub expected: u8,
     /// The field that is read or written.
     pub field: u32,
     /// The fields of the record that is made.
@@ -26,6 +28,7 @@ impl Operands {
         target: 0,
         object: 0,
         source: 0,
+        expected: 0,
         field: 0,
         fields: 0,
         cells: 0,
@@ -57,6 +60,13 @@ impl Operands {
             Command::Set { r, i, v } => Operands {
                 object: r,
                 source: v,
+                field: i,
+                ..none
+            },
+            Command::Cas { r, i, a, v } => Operands {
+                object: r,
+                source: v,
+                expected: a,
                 field: i,
                 ..none
             },

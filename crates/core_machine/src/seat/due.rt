@@ -77,6 +77,15 @@ impl<L: Entries> SeatParty<L> {
                 part: self.part,
                 word: self.new_word(number),
             },
+            Access::ShadingSide(side) => AccessStep::Shade {
+                fragment: self.side_register(side).head().unwrap_or(0),
+            },
+            Access::Replacing => AccessStep::CompareSwap {
+                fragment,
+                part: self.part,
+                old: self.old_word(),
+                new: self.new_word(number),
+            },
         };
         Step::Access(step)
     }

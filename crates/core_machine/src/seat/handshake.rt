@@ -190,6 +190,7 @@ impl<L: Entries> SeatParty<L> {
         ensures forgotten { self.new.forgotten ≡ self.old.forgotten }
     {
         self.registers = [Register::Nil; REGISTER_COUNT];
+        self.seen = [0; REGISTER_COUNT];
         self.left = true;
         self.reply(number, Reply::Done);
     }

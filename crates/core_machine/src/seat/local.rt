@@ -1,6 +1,6 @@
 ghost use Rattle.std.specs.Prelude.{◌≡◌, ◌<◌};
 ghost use Rattle.heap_model.specs.Command.{IsCommand};
-ghost use Rattle.core_machine.specs.seat.Local.{local_reply_of, local_registers, answer_of};
+ghost use Rattle.core_machine.specs.seat.Local.{local_reply_of, local_registers, local_seen, answer_of};
 ghost use Rattle.core_machine.specs.seat.HandshakeMoves.{local_move};
 ghost use Rattle.core_machine.specs.Moves.{seat_after};
 ghost use Rattle.core_machine.specs.machine.Value.{KeepsRoom};
@@ -37,14 +37,17 @@ impl<L: Entries> SeatParty<L> {
     /// Changes the register that the command names.
     fn change_register(&mut self)
         requires { IsCommand self.old.seat.command }
-        ensures seat { self.new.seat ≡ record self.old.seat { registers = local_registers self.old.seat.registers self.old.seat.command } }
+        ensures seat { self.new.seat ≡ record self.old.seat { registers = local_registers self.old.seat.registers self.old.seat.command; seen = local_seen self.old.seat.seen self.old.seat.command } }
         ensures spare { self.new.spare ≡ self.old.spare }
         ensures forgotten { self.new.forgotten ≡ self.old.forgotten }
     {
         match self.command {
-            Command::Num { d, n } => self.registers[d as usize] = Register::Number(n),
-            Command::Nil { d } => self.registers[d as usize] = Register::Nil,
-            Command::Copy { d, r } => self.registers[d as usize] = self.registers[r as usize],
+            Command::Num { d, n } => self.hold(d, Register::Number(n), 0),
+            Command::Nil { d } => self.hold(d, Register::Nil, 0),
+            Command::Copy { d, r } => {
+                let (register, stamp) = (self.registers[r as usize], self.seen[r as usize]);
+                self.hold(d, register, stamp);
+            },
             _ => (),
         }
     }

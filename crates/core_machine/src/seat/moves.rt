@@ -63,6 +63,8 @@ impl<L: Entries> SeatParty<L> {
             Access::ShadingOld => self.finish_old(),
             Access::ShadingNew => self.point = Point::Access(Access::Swapping),
             Access::Swapping => self.learn_swap(number, found),
+            Access::ShadingSide(side) => self.learn_side(side),
+            Access::Replacing => self.learn_replace(number, found),
         }
     }
 

@@ -1,4 +1,5 @@
 ghost use Rattle.std.specs.Prelude.{◌≡◌, ◌*◌, ◌<◌, ◌≤◌, ◌^◌, IfSome};
+ghost use Rattle.heap_model.specs.Command.{IsCommand};
 ghost use Rattle.heap_model.specs.Limits.{last_index, register_count};
 ghost use Rattle.core_machine.specs.seat.Commands.{field_of};
 ghost use Rattle.heap_words.specs.Loaded.{pointer_in, array_length_of, payload_in};
@@ -50,7 +51,9 @@ fn meta_reply(command: &Command, found: u64) -> Option<Reply>
 {
     match *command {
         Command::Len { .. } => Some(Reply::Length(Meta::length_in(found))),
-        Command::Get { i, .. } | Command::Set { i, .. } => field_reply(i, found),
+        Command::Get { i, .. } | Command::Set { i, .. } | Command::Cas { i, .. } => {
+            field_reply(i, found)
+        }
         _ => None,
     }
 }
@@ -83,7 +86,7 @@ impl<L: Entries> SeatParty<L> {
         self.part = part(field);
     }
 
-    /// Whether a set has to shade what it takes out and what it puts in.
+    /// Whether a set or a compare and swap has to shade what it takes out and what it puts in.
     fn has_barrier(&self) -> bool
         ensures { result ≡ has_barrier_of self.now.seat }
     {
@@ -93,17 +96,21 @@ impl<L: Entries> SeatParty<L> {
 
     /// What is done with the field.
     fn field_point(&self) -> Access
+        requires { IsCommand self.now.seat.command }
         ensures { result ≡ field_point_of self.now.seat self.now.seat.command }
     {
         match self.command {
             Command::Set { .. } if self.has_barrier() => Access::LoadingOld,
             Command::Set { .. } => Access::Swapping,
+            Command::Cas { .. } if self.has_barrier() => self.guard_point(),
+            Command::Cas { .. } => Access::Replacing,
             _ => Access::Getting,
         }
     }
 
     /// Where the way stands at a fragment.
     fn way_point(&self) -> Access
+        requires { IsCommand self.now.seat.command }
         ensures { result ≡ way_point_of self.now.seat }
     {
         if self.links == 0 {
@@ -115,7 +122,8 @@ impl<L: Entries> SeatParty<L> {
 
     /// Learns the first word of the fragment that was reached.
     pub(crate) fn learn_link(&mut self, found: u64)
-        requires { IfSome (pointer_in 0 found) (λ fragment. fragment < 2 ^ 16) }
+        requires command { IsCommand self.old.seat.command }
+        requires leads { IfSome (pointer_in 0 found) (λ fragment. fragment < 2 ^ 16) }
         ensures seat { self.new.seat ≡ after_walk self.old.seat found }
         ensures spare { self.new.spare ≡ self.old.spare }
         ensures forgotten { self.new.forgotten ≡ self.old.forgotten }
@@ -129,6 +137,7 @@ impl<L: Entries> SeatParty<L> {
 
     /// Learns by the meta whether the way goes by links or by a spine.
     fn learn_length(&mut self, found: u64)
+        requires command { IsCommand self.old.seat.command }
         requires field { field_of self.old.seat.command ≤ last_index }
         requires leads { IfSome (pointer_in 0 found) (λ fragment. fragment < 2 ^ 16) }
         ensures seat { self.new.seat ≡ after_length self.old.seat found (array_length_of found) }
@@ -147,7 +156,8 @@ impl<L: Entries> SeatParty<L> {
 
     /// Learns the spine word that names the cell's fragment.
     pub(crate) fn learn_index(&mut self, found: u64)
-        requires { payload_in found < 2 ^ 16 }
+        requires command { IsCommand self.old.seat.command }
+        requires leads { payload_in found < 2 ^ 16 }
         ensures seat { self.new.seat ≡ after_index self.old.seat found }
         ensures spare { self.new.spare ≡ self.old.spare }
         ensures forgotten { self.new.forgotten ≡ self.old.forgotten }
@@ -158,6 +168,7 @@ impl<L: Entries> SeatParty<L> {
 
     /// Learns the object's meta.
     pub(crate) fn learn_meta(&mut self, number: u8, found: u64)
+        requires command { IsCommand self.old.seat.command }
         requires field { field_of self.old.seat.command ≤ last_index }
         requires leads { IfSome (pointer_in 0 found) (λ fragment. fragment < 2 ^ 16) }
         requires spare { 0 < self.old.spare }

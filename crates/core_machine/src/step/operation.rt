@@ -10,6 +10,8 @@ pub enum Operation {
     Store(u64),
     /// The word becomes this one.
     Exchange(u64),
+    /// The word becomes the new one where it is the old one, and else stays.
+    CompareExchange { old: u64, new: u64 },
     /// These bits are set.
     Or(u64),
     /// These bits alone are kept.
@@ -29,6 +31,7 @@ impl Operation {
         match *self {
             Operation::Load => found,
             Operation::Store(word) | Operation::Exchange(word) => word,
+            Operation::CompareExchange { old, new } => { if found == old { new } else { found } },
             Operation::Or(bits) => found | bits,
             Operation::And(bits) => found & bits,
             Operation::Add(number) => found.wrapping_add(number),

@@ -68,6 +68,15 @@ impl AccessStep {
                 part,
                 word,
             } => (Address::Word { fragment, part }, Operation::Exchange(word)),
+            AccessStep::CompareSwap {
+                fragment,
+                part,
+                old,
+                new,
+            } => {
+                let operation = Operation::CompareExchange { old, new };
+                (Address::Word { fragment, part }, operation)
+            }
         }
     }
 }

@@ -1,10 +1,11 @@
 -- What stays of a seat's standing in a cycle, and of the colours.
 use Rattle.std.proofs.Common.{◌⊎◌, ◌≡◌, ℕ, List, Bool, Option, inl, inr, refl, ◌∙◌, ◌≢◌, sym}
-use Rattle.core_rule.proofs.Terms.{Heap, Point, ShadingOld, ShadingNew, Swapping, at, Seat, Colour, White, Black, IsMarked, WordPointsTo, IsBetween, Coloured, BornColours}
+use Rattle.core_rule.proofs.Terms.{ShadingSide, Replacing, Heap, Point, ShadingOld, ShadingNew, Swapping, at, Seat, Colour, White, Black, IsMarked, WordPointsTo, IsBetween, Coloured, BornColours}
 use Rattle.core_rule.proofs.Terms.{SeatInCycle, Flight, DeletionBarrier, FieldStands, ShadedStands, RootsStand, WhileAccess, WhilePolling, Owner, Borne, Kept, born_bit}
 use Rattle.core_rule.proofs.Terms.{AnswersAgree, AnswerStands}
 use Rattle.core_machine.specs.declared.table.address.Address.TheVariants.{Answer}
 use Rattle.core_machine.specs.declared.point.Point.TheVariants as points
+use Rattle.core_machine.specs.declared.point.Side.TheVariants.{New}
 use Rattle.core_machine.specs.declared.point.Polling.{Polling}
 use Rattle.core_machine.specs.declared.point.Polling.TheVariants.{Asking, Shading, Answering}
 use Rattle.core_machine.specs.declared.point.Access.{Access}
@@ -70,6 +71,8 @@ module _ (heap : Heap) (words now : List ℕ) (colour coloured : ℕ → Colour)
   shaded_stays : (point : Access) → ShadedStands colour seat point → ShadedStands coloured seat point
   shaded_stays ShadingNew shaded = if_some_goes_on (IsMarked colour) (IsMarked coloured) marks _ shaded
   shaded_stays Swapping shaded = λ on. (if_some_goes_on (IsMarked colour) (IsMarked coloured) marks _ (shaded on).0, if_some_goes_on (IsMarked colour) (IsMarked coloured) marks _ (shaded on).1)
+  shaded_stays (ShadingSide New) shaded = if_some_goes_on (IsMarked colour) (IsMarked coloured) marks _ shaded
+  shaded_stays Replacing shaded = λ on. (if_some_goes_on (IsMarked colour) (IsMarked coloured) marks _ (shaded on).0, if_some_goes_on (IsMarked colour) (IsMarked coloured) marks _ (shaded on).1)
   shaded_stays _ shaded = tt
 
 -- what a step of another party leaves of what a seat needs: its answer, where the heap's fragments lead, what is marked, and what it bears

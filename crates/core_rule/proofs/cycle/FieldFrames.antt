@@ -20,6 +20,22 @@ module _ (nodes : ℕ → Node) (made : List Id) (owner : ℕ → Owner) (fragme
   way_found Swapping watches way = way.0
   way_found _ watches way = absurd watches
 
+module _ (heap : Heap) (state : State) (book : Book) (rule : Rule heap state book) (r : ℕ)
+    (finds : Finds (node_at (graph_of heap book.history) book.made) book.made book.owner book.fragments (seat_at state r)) where
+  -- the fragment with a field that was found is its object's
+  field_is_owned : book.owner (seat_at state r).reached ≡ Kept finds.index finds.row
+  field_is_owned =
+      let stands = rule.heap_stands in
+      let row = way_row_within_object heap state.words (graph_of heap book.history) book.made book.owner book.fragments rule.machine.limits stands.control_words stands.ids stands.objects (seat_at state r) finds in
+      ap book.owner finds.way.here ∙ (stands.objects.kept finds.index finds.way.below finds.way.kept).owned finds.row (omega (arith, row))
+
+  -- and has no spine, since no cell stands in an array's first one
+  pub field_tells_no_spine : TellsNoSpine heap state.words (seat_at state r).reached
+  field_tells_no_spine =
+      let stands = rule.heap_stands in
+      kept_tells_no_spine heap state book rule (seat_at state r).reached finds.index finds.row field_is_owned
+      (way_is_behind_first heap state.words (graph_of heap book.history) book.made book.owner book.fragments rule.machine.limits stands.control_words stands.ids stands.objects (seat_at state r) finds)
+
 module _ (heap : Heap) (state : State) (book : Book) (rule : Rule heap state book) (r : ℕ) (below : r < heap.seats) (reaching : Access)
     (is : (seat_at state r).point ≡ points.Access reaching) (watches : IsWatching reaching) where
   abbrev nodes_now : ℕ → Node
@@ -30,22 +46,8 @@ module _ (heap : Heap) (state : State) (book : Book) (rule : Rule heap state boo
       (subst (WayStands nodes_now book.made book.owner book.fragments (seat_at state r)) is (rule.seats_stand r below).names.way)
 
   -- the fragment whose old value a set has loaded is an object's
-  watched_owned : book.owner (seat_at state r).reached ≡ Kept watched_finds.index watched_finds.row
-  watched_owned =
-      let stands = rule.heap_stands in
-      let finds = watched_finds in
-      let row = way_row_within_object heap state.words (graph_of heap book.history) book.made book.owner book.fragments rule.machine.limits stands.control_words stands.ids stands.objects (seat_at state r) finds in
-      ap book.owner finds.way.here ∙ (stands.objects.kept finds.index finds.way.below finds.way.kept).owned finds.row (omega (arith, row))
-
   pub watched_is_kept_fragment : IsKeptFragment book.owner (seat_at state r).reached
-  watched_is_kept_fragment = record { index = watched_finds.index; position = watched_finds.row; kept = watched_owned }
-
-  -- and has no spine, since no cell stands in an array's first one
-  pub watched_tells_no_spine : TellsNoSpine heap state.words (seat_at state r).reached
-  watched_tells_no_spine =
-      let stands = rule.heap_stands in
-      kept_tells_no_spine heap state book rule (seat_at state r).reached watched_finds.index watched_finds.row watched_owned
-      (way_is_behind_first heap state.words (graph_of heap book.history) book.made book.owner book.fragments rule.machine.limits stands.control_words stands.ids stands.objects (seat_at state r) watched_finds)
+  watched_is_kept_fragment = record { index = watched_finds.index; position = watched_finds.row; kept = field_is_owned heap state book rule r watched_finds }
 
 -- so it is born
 pub watched_is_born : (heap : Heap) (state : State) (book : Book) (rule : Rule heap state book) (r : ℕ) → r < heap.seats → WatchesBorn book.owner (seat_at state r)

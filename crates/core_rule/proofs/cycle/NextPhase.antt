@@ -1,11 +1,12 @@
 -- What stands of a seat, and of the colours, once the next phase has begun.
 use Rattle.std.proofs.Common.{◌≡◌, ◌⊎◌, ℕ, ◌+◌, Bool, true, false, List, inl, inr, refl, sym, ◌∙◌, subst, arith, ◌%◌, ◌≢◌, ap}
 use Rattle.std.proofs.lemmas.Bool.Decides.{eqb_tells}
-use Rattle.core_rule.proofs.Terms.{cycle_phases, Heap, Point, ShadingNew, Swapping, Fits, FitsWay, at, Seat, Colour, White, WordPointsTo, IsBetween, Coloured, SeatInCycle}
+use Rattle.core_rule.proofs.Terms.{ShadingSide, Replacing, cycle_phases, Heap, Point, ShadingNew, Swapping, Fits, FitsWay, at, Seat, Colour, White, WordPointsTo, IsBetween, Coloured, SeatInCycle}
 use Rattle.core_rule.proofs.Terms.{FieldStands, ShadedStands, RootsStand, WhileAccess, WhilePolling, Owner, AnswerStands}
 use Rattle.heap_model.specs.PhasePlan.{clearing as clearing_phase, rest as resting, barriers as barriers_phase}
 use Rattle.core_machine.specs.declared.table.address.Address.TheVariants.{Answer}
 use Rattle.core_machine.specs.declared.point.Point.TheVariants as points
+use Rattle.core_machine.specs.declared.point.Side.TheVariants.{New}
 use Rattle.core_machine.specs.declared.point.Polling.TheVariants.{Asking, Shading, Answering}
 use Rattle.core_rule.proofs.cycle.Barriers.{barrier_is_between}
 use Rattle.core_rule.proofs.cycle.CycleFrames.{while_access_goes_on, field_stands_still}
@@ -51,6 +52,8 @@ present_or_idle heap seat fits = by seat.left (λ gone. (fits.gone gone).idle)
 unshaded : (colour : ℕ → Colour) (seat : Seat) (point : Point) → FitsWay seat point → seat.answered % cycle_phases ≡ resting → WhileAccess (ShadedStands colour seat) point
 unshaded colour seat (points.Access ShadingNew) fits off = let on = barrier_is_between seat fits.1 in absurd (omega (arith, on.from, off))
 unshaded colour seat (points.Access Swapping) fits off = λ on. absurd (omega (arith, on.from, off))
+unshaded colour seat (points.Access (ShadingSide New)) fits off = let on = barrier_is_between seat fits.1 in absurd (omega (arith, on.from, off))
+unshaded colour seat (points.Access Replacing) fits off = λ on. absurd (omega (arith, on.from, off))
 unshaded colour seat _ fits off = tt
 
 -- what a seat at a point is about to answer, it has not answered

@@ -13,6 +13,7 @@ begins number n begun r = if r == number then n else begun r
 -- all that a seat has is as before, but what it gathers, its point and its way
 pub record SameData (seat next : Seat) : Type 0 where
   pub registers : next.registers ≡ seat.registers
+  pub seen : next.seen ≡ seat.seen
   pub stored : next.stored ≡ seat.stored
   pub mine : next.mine ≡ seat.mine
   pub made : next.made ≡ seat.made
@@ -24,7 +25,7 @@ pub record SameData (seat next : Seat) : Type 0 where
 pub begun_has_same_data : (seat : Seat) (point : Point) (command : Command) (reached cursor tried given : ℕ) (reserve hand body : List ℕ)
     → SameData seat (record seat { point = point; command = command; reached = reached; cursor = cursor; tried = tried; given = given; reserve = reserve; hand = hand; body = body })
 begun_has_same_data seat point command reached cursor tried given reserve hand body =
-    record { registers = refl; stored = refl; mine = refl; made = refl; sets = refl; answered = refl; left = refl; asked = refl }
+    record { registers = refl; seen = refl; stored = refl; mine = refl; made = refl; sets = refl; answered = refl; left = refl; asked = refl }
 
 module _ (heap : Heap) (words : List ℕ) (book : Book) (number : ℕ) where
   -- the book after it

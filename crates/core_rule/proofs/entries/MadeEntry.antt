@@ -2,7 +2,7 @@
 use Rattle.std.proofs.Common.{◌≡◌, ℕ, ◌+◌, ◌≤◌, false, List, [], ◌∷◌, ◌++◌, length, refl, sym, ap, ◌∙◌, arith}
 use Rattle.std.proofs.lemmas.Bool.{eq-eqb}
 use Rattle.core_rule.proofs.Terms.{Entry, Heap, Made, IsLegal, add, graph_of, graph_seat, taken_of, spent_of, Graph, Node, fresh, opening, MakesObject, target_of, next_object_id}
-use Rattle.core_rule.proofs.Terms.{made_entry, last_birth_move, Seat, need, CountsAgree, AreUsed, Owner}
+use Rattle.core_rule.proofs.Terms.{made_entry, last_birth_move, Seat, need, CountsAgree, AreUsed, Owner, SeenStands}
 use Rattle.heap_model.specs.Command.{IsCommand}
 use Rattle.heap_model.proofs.Histories.{graph_after-more, total-more}
 use Rattle.core_machine.specs.Moves.{seat_after}
@@ -33,10 +33,10 @@ module _ (g : Graph) (history : List Entry) (number : ℕ) (seat : Seat) (counts
       omega (arith, counts.unborn, body, whole)
 
   -- the seat's counts after it
-  pub counts_agree_after_made : (d : ℕ) (object : Node) (found : ℕ) → CountsAgree (add g number d object) (history ++ made_entry number seat ∷ []) number (seat_after (last_birth_move number seat) found)
-  counts_agree_after_made d object found =
+  pub counts_agree_after_made : (d : ℕ) (object : Node) (found : ℕ) → SeenStands (add g number d object) number (seat_after (last_birth_move number seat) found).seen → CountsAgree (add g number d object) (history ++ made_entry number seat ∷ []) number (seat_after (last_birth_move number seat) found)
+  counts_agree_after_made d object found seen =
       counts_agree_after_own g (add g number d object) history number seat (seat_after (last_birth_move number seat) found) counts (made_entry number seat) (eq-eqb number number refl)
-      (ap (λ n. n + 1) counts.numbered ∙ sym (objects_grow_by_add g number d object present)) (counts.stamped ∙ sym (sets_same_by_add g number d object present))
+      (ap (λ n. n + 1) counts.numbered ∙ sym (objects_grow_by_add g number d object present)) (counts.stamped ∙ sym (sets_same_by_add g number d object present)) seen
       (has_not_left_by_add g number d object present ∙ sym present ∙ counts.leaves)
       (omega (arith, ap length (in_hand_is_body seat.hand seat.body some), whole))
 

@@ -73,8 +73,8 @@ module _ (g : Graph) (made : List Id) (owner : ℕ → Owner) (fragments : ℕ �
 
   module _ (history : List Entry) (busy : ¬ IsAnswered seat.point) (list : OwnList g history made owner fragments number seat) where
     -- so its own list has all of its entries
-    has_all : seat.mine ≡ filter (is_of number) history
-    has_all = own_list_is_all_told list (nothing_awaited seat.point list.awaited busy list.awaits)
+    pub busy_list_is_all_told : seat.mine ≡ filter (is_of number) history
+    busy_list_is_all_told = own_list_is_all_told list (nothing_awaited seat.point list.awaited busy list.awaits)
 
     -- what is shown then is told at once, or awaited
     pub own_list_after_entry : (now : Graph) (later : List Entry) (new : Seat) (added awaited shown : List Entry) → new.mine ≡ seat.mine ++ added
@@ -83,6 +83,6 @@ module _ (g : Graph) (made : List Id) (owner : ℕ → Owner) (fragments : ℕ �
     own_list_after_entry now later new added awaited shown mine joined grown awaits = record {
       awaited = awaited;
       own = ap (λ (own : List Entry). own ++ awaited) mine ∙ append_assoc seat.mine added awaited ∙ ap (λ (x : List Entry). seat.mine ++ x) joined
-          ∙ ap (λ (own : List Entry). own ++ shown) has_all ∙ sym grown;
+          ∙ ap (λ (own : List Entry). own ++ shown) busy_list_is_all_told ∙ sym grown;
       awaits = awaits;
     }

@@ -10,6 +10,7 @@ use Rattle.core_machine.specs.declared.point.Polling.TheVariants.{Asking}
 use Rattle.core_machine.specs.declared.seat.register.Register.TheVariants as registers
 use Rattle.core_rule.proofs.entries.Begins.{SameData, begun_has_same_data}
 use Rattle.core_rule.proofs.graph.Numbering.{id_at_own_number}
+use Rattle.core_rule.proofs.graph.SeenStamps.{IsUnnamed}
 
 -- all that the seat had is as before, whatever its point and its way
 pub record SameOwn (old now : Seat) : Type 0 where
@@ -31,6 +32,11 @@ IsFresh (points.Access _) = ⊥
 IsFresh (points.Polling Asking) = Unit {0}
 IsFresh (points.Polling _) = ⊥
 IsFresh _ = Unit {0}
+
+pub fresh_is_unnamed : (point : Point) → IsFresh point → IsUnnamed point
+fresh_is_unnamed (points.Access LoadingMeta) fresh = tt
+fresh_is_unnamed (points.Access _) fresh = absurd fresh
+fresh_is_unnamed _ fresh = tt
 
 -- no spine word is granted there, and the place of no spine is in hand
 abbrev pub IsBare : Point → Type 0
@@ -94,6 +100,7 @@ module _ (g : Graph) (nodes : ℕ → Node) (made : List Id) (owner : ℕ → Ow
       → ((r : ℕ) → (value : Value) × HoldsValue made owner fragments (register_in seat.registers r) value) → Starts seat (call_start heap seat command)
   other_call_starts heap seat (commands.Get d r i) other served is holds = opened_starts seat (register_in seat.registers r) (holds r).0 (holds r).1 (ap (λ c. register_in seat.registers (object_of c)) (sym is))
   other_call_starts heap seat (commands.Set r i v) other served is holds = opened_starts seat (register_in seat.registers r) (holds r).0 (holds r).1 (ap (λ c. register_in seat.registers (object_of c)) (sym is))
+  other_call_starts heap seat (commands.Cas r i a v) other served is holds = opened_starts seat (register_in seat.registers r) (holds r).0 (holds r).1 (ap (λ c. register_in seat.registers (object_of c)) (sym is))
   other_call_starts heap seat (commands.Len r) other served is holds = opened_starts seat (register_in seat.registers r) (holds r).0 (holds r).1 (ap (λ c. register_in seat.registers (object_of c)) (sym is))
   other_call_starts heap seat (commands.New d fields) other served is holds = absurd (other tt)
   other_call_starts heap seat commands.Collect other served is holds = absurd served

@@ -51,6 +51,7 @@ pub meta_reply_is_plain : (command : Command) (found : ℕ) → IfSome (meta_rep
 meta_reply_is_plain (commands.Len r) found = tt
 meta_reply_is_plain (commands.Get d r i) found = field_plain _
 meta_reply_is_plain (commands.Set r i v) found = field_plain _
+meta_reply_is_plain (commands.Cas r i a v) found = field_plain _
 meta_reply_is_plain _ found = tt
 
 module _ (number : ℕ) (seat : Seat) (point : Point) where

@@ -3,7 +3,7 @@ use Rattle.std.proofs.Common.{◌≡◌, ◌≢◌, ℕ, ◌+◌, ◌*◌, ◌/�
 use Rattle.std.proofs.lemmas.Bool.{eq-eqb}
 use Rattle.std.proofs.lemmas.Bool.Decides.{eqb_tells}
 use Rattle.std.proofs.lemmas.List.{append-nil}
-use Rattle.core_rule.proofs.Terms.{Entry, Heap, IsLegal, graph_of, is_of, graph_seat, phase, last_answer, has_left, Point, tally, State, seat_at, takes_some, Seat, Book, Colour}
+use Rattle.core_rule.proofs.Terms.{SeenStands, stamps_at, Entry, Heap, IsLegal, graph_of, is_of, graph_seat, phase, last_answer, has_left, Point, tally, State, seat_at, takes_some, Seat, Book, Colour}
 use Rattle.core_rule.proofs.Terms.{CountsAgree, AreUsed, HeapInCycle, SeatInCycle, GathersRight, Began, IsAnswered, fragments_in_hand, Owner, Free, Taken, free_bit, owner_after}
 use Rattle.core_rule.proofs.Terms.{Rule}
 use Rattle.heap_model.specs.declared.entry.Entry.TheVariants as entries
@@ -33,7 +33,7 @@ pub record ClaimTold (heap : Heap) (state : State) (book : Book) (number : ℕ) 
       → SeatInCycle heap words (phase history) (last_answer r history) (has_left r history) owner colour r seat
   pub own : (mine : List Entry) → mine ≡ filter (is_of number) book.history → mine ++ added ≡ filter (is_of number) history
   pub others : (r : ℕ) → r ≢ number → SameTold r book.history history
-  pub counts : (now : Seat) → now.made ≡ (seat_at state number).made → now.sets ≡ (seat_at state number).sets → now.left ≡ (seat_at state number).left
+  pub counts : (now : Seat) → now.made ≡ (seat_at state number).made → now.sets ≡ (seat_at state number).sets → stamps_at now now.point ≡ stamps_at (seat_at state number) (seat_at state number).point → now.left ≡ (seat_at state number).left
       → length now.reserve + length (fragments_in_hand now.hand now.body) ≡ length (seat_at state number).reserve + length (fragments_in_hand (seat_at state number).hand (seat_at state number).body) + count
       → CountsAgree (graph_of heap book.history) history number now
   pub began : (now : Point) → Began history number (book.begun number) now
@@ -64,8 +64,8 @@ module _ (heap : Heap) (state : State) (book : Book) (number : ℕ) (fs : List �
         cycles = λ words owner colour r seat cycle. seat_in_cycle_after_own heap words owner colour book.history entry refl r seat cycle refl refl;
         own = λ mine was. own_list_grows number book.history mine entry (eq-eqb number number refl) was;
         others = λ r apart. seat_told_same_after_other r book.history entry (seat_is_not_other number r apart);
-        counts = λ now same sets left more. counts_agree_after_own (graph_of heap book.history) (graph_of heap book.history) book.history number (seat_at state number) now stands.told.counts entry (eq-eqb number number refl)
-            (same ∙ stands.told.counts.numbered) (sets ∙ stands.told.counts.stamped) (stands.told.counts.leaves ∙ sym left) (omega (arith, more));
+        counts = λ now same sets seen left more. counts_agree_after_own (graph_of heap book.history) (graph_of heap book.history) book.history number (seat_at state number) now stands.told.counts entry (eq-eqb number number refl)
+            (same ∙ stands.told.counts.numbered) (sets ∙ stands.told.counts.stamped) (subst (SeenStands (graph_of heap book.history) number) (sym seen) stands.told.counts.seen) (stands.told.counts.leaves ∙ sym left) (omega (arith, more));
         began = λ now. began_after_entry book.history entry number (book.begun number) (seat_at state number).point now refl (λ still. busy) stands.told.began;
         gathers = own_claim_gathers_right heap book.owner book.history number fs once below used (book.begun number) stands.told.began.earlier (seat_at state number).cursor (seat_at state number).tried 0 free none nothing_given;
         other_gathers = λ r under apart. other_claim_gathers_right heap book.owner book.history number fs once below used (book.begun r) (rule.seats_stand r under).told.began.earlier
@@ -87,7 +87,7 @@ module _ (heap : Heap) (state : State) (book : Book) (number : ℕ) (fs : List �
         cycles = λ words owner colour r seat cycle. cycle;
         own = λ mine was. append-nil mine ∙ was;
         others = λ r apart. seat_told_same_without_entry r book.history;
-        counts = λ now same sets left more. counts_agree_without_entry (graph_of heap book.history) book.history number (seat_at state number) now same sets left (equal_by_no_difference _ _ (length fs) more nothing) stands.told.counts;
+        counts = λ now same sets seen left more. counts_agree_without_entry (graph_of heap book.history) book.history number (seat_at state number) now same sets seen left (equal_by_no_difference _ _ (length fs) more nothing) stands.told.counts;
         began = λ now. record { earlier = stands.told.began.earlier; unanswered = λ active. stands.told.began.unanswered busy };
         gathers = own_empty_claim_gathers_right heap book.owner book.history number fs once below used (book.begun number) stands.told.began.earlier (seat_at state number).cursor (seat_at state number).tried 0 free none nothing_given;
         other_gathers = λ r under apart. other_empty_claim_gathers_right heap book.owner book.history number fs once below used (book.begun r) (rule.seats_stand r under).told.began.earlier

@@ -3,7 +3,7 @@ use Rattle.std.proofs.Common.{◌≡◌, ℕ, ◌<◌, false, List, [], ◌∷�
 use Rattle.heap_words.specs.declared.spot.Spot.{Spot}
 use Rattle.core_rule.proofs.Terms.{Entry, Heap, Id, graph_of, is_of, register_value, phase, last_answer, has_left, spent_of, taken_of, Graph, Point, Register}
 use Rattle.core_rule.proofs.Terms.{Seat, Book, SeatInCycle, IsStored, GathersRight, Began, UsedStands, node_at, IsKept, Owner, SpineOwner, Registers, AddressStands, NamesStand}
-use Rattle.core_rule.proofs.Terms.{SeatStands, WayStands}
+use Rattle.core_rule.proofs.Terms.{SeatStands, WayStands, stamps_at}
 use Rattle.heap_model.specs.declared.id.Value.TheVariants as values
 use Rattle.core_machine.specs.declared.seat.register.Register.TheVariants as registers
 use Rattle.core_rule.specs.graph.Registers as regs
@@ -15,6 +15,7 @@ use Rattle.core_rule.proofs.objects.ObjectFrames.{SameKept, names_kept_by_same_k
 use Rattle.core_rule.proofs.spines.SpineFrames.{SpineIsStored, spine_is_stored_by_words, SpinesLeft, spines_left_of_itself, spine_in_hand_stays, PlacesStay, places_stay_where_same, address_stands_still, address_stands_with_words}
 use Rattle.core_rule.proofs.budgets.UsedWords.{used_stands_after_other_entry}
 use Rattle.core_rule.proofs.ways.WayFrames.{ObjectStays, way_stands_still}
+use Rattle.core_rule.proofs.graph.SeenStamps.{seen_of_same_registers}
 use Rattle.core_rule.proofs.words.Addresses.{SameSpines}
 use Rattle.heap_model.proofs.graph_changes.SameParties.{SameParty, register_stays}
 
@@ -128,6 +129,7 @@ seat_stands_where_left_alone heap words now_words book now r seat leaves old =
         counts = record {
           numbered = old.told.counts.numbered ∙ sym leaves.party.objects;
           stamped = old.told.counts.stamped ∙ sym leaves.party.sets;
+          seen = seen_of_same_registers g r (stamps_at seat seat.point) old.told.counts.seen after leaves.party.registers;
           leaves = leaves.party.left ∙ old.told.counts.leaves;
           unborn = omega (arith, old.told.counts.unborn, leaves.told.spent, leaves.told.taken);
         };

@@ -29,10 +29,11 @@ len_only : (P : Command → Type 0) → ((r : ℕ) → P (commands.Len r)) → (
 len_only P len (commands.Len r) is = len r
 len_only P len _ is = absurd is
 
-field_only : (P : Command → Type 0) → ((d r i : ℕ) → P (commands.Get d r i)) → ((r i v : ℕ) → P (commands.Set r i v)) → (command : Command) → NamesField command → P command
-field_only P get set (commands.Get d r i) is = get d r i
-field_only P get set (commands.Set r i v) is = set r i v
-field_only P get set _ is = absurd is
+field_only : (P : Command → Type 0) → ((d r i : ℕ) → P (commands.Get d r i)) → ((r i v : ℕ) → P (commands.Set r i v)) → ((r i a v : ℕ) → P (commands.Cas r i a v)) → (command : Command) → NamesField command → P command
+field_only P get set cas (commands.Get d r i) is = get d r i
+field_only P get set cas (commands.Set r i v) is = set r i v
+field_only P get set cas (commands.Cas r i a v) is = cas r i a v
+field_only P get set cas _ is = absurd is
 
 -- a get's register is one of sixteen
 pub target_within_registers : (command : Command) → IsGet command → IsCommand command → target_of command < 16
@@ -61,6 +62,7 @@ module _ (g : Graph) (number : ℕ) (id : Id) (command : Command) (ranges : IsCo
       field_only (λ c. IsCommand c → register_value g number (object_of c) ≡ Object id → length (node_in (node g id)).cells ≤ field_of c → Accepts g (Said number c replies.NoField))
       (λ d r i fits holds none. (present, fits, rw (holds, cell_there (node g id) i made, slice_get_past (node_in (node g id)).cells i none) refl))
       (λ r i v fits holds none. (present, fits, rw (holds, cell_there (node g id) i made, slice_get_past (node_in (node g id)).cells i none) refl))
+      (λ r i a v fits holds none. (present, fits, rw (holds, cell_there (node g id) i made, slice_get_past (node_in (node g id)).cells i none) refl))
       command is ranges held past
 
   -- a get's value and stamp are the cell's
@@ -74,7 +76,7 @@ pub graph_same_after_length : (g : Graph) (number n : ℕ) (command : Command) �
 graph_same_after_length g number n command is = len_only (λ c. after_reply g number c (replies.Length n) ≡ g) (λ r. refl) command is
 
 pub graph_same_after_no_field : (g : Graph) (number : ℕ) (command : Command) → NamesField command → after_reply g number command replies.NoField ≡ g
-graph_same_after_no_field g number command is = field_only (λ c. after_reply g number c replies.NoField ≡ g) (λ d r i. refl) (λ r i v. refl) command is
+graph_same_after_no_field g number command is = field_only (λ c. after_reply g number c replies.NoField ≡ g) (λ d r i. refl) (λ r i v. refl) (λ r i a v. refl) command is
 
 -- what a get answers stands in its register
 pub graph_after_got : (g : Graph) (number : ℕ) (value : Value) (stamp : ℕ) (command : Command) → IsGet command → after_reply g number command (replies.Got value stamp) ≡ with_register g number (target_of command) (record { value = value; stamp = stamp })
@@ -93,7 +95,8 @@ module _ (heap : Heap) (play : Bool) (before : List Entry) (number : ℕ) (own :
   pub keeps_space_of_no_field : (command : Command) → NamesField command → KeepsSpace heap play before (Said number command replies.NoField)
   keeps_space_of_no_field command is =
       field_only (λ c. KeepsSpace heap play before (Said number c replies.NoField))
-      (λ d r i. keeps_bare (commands.Get d r i) replies.NoField refl refl tt tt tt) (λ r i v. keeps_bare (commands.Set r i v) replies.NoField refl refl tt tt tt) command is
+      (λ d r i. keeps_bare (commands.Get d r i) replies.NoField refl refl tt tt tt) (λ r i v. keeps_bare (commands.Set r i v) replies.NoField refl refl tt tt tt)
+      (λ r i a v. keeps_bare (commands.Cas r i a v) replies.NoField refl refl tt tt tt) command is
 
   pub keeps_space_of_got : (value : Value) (stamp : ℕ) (command : Command) → IsGet command → KeepsSpace heap play before (Said number command (replies.Got value stamp))
   keeps_space_of_got value stamp command is =

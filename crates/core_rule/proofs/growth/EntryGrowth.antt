@@ -3,7 +3,7 @@ use Rattle.std.proofs.Common.{◌≡◌, ◌≢◌, ℕ, ◌+◌, ◌<◌, true,
 use Rattle.std.proofs.lemmas.Bool.{cases_eq}
 use Rattle.std.proofs.lemmas.List.{length-set}
 use Rattle.std.proofs.lemmas.Option.{slice_get_within, get_or_from_slice_get}
-use Rattle.core_rule.proofs.Terms.{Command, Entry, Id, Value, Reply, with_cell, count_set, write, set_stamp, Graph, Node, after_entry, after_reply, Accepts, IsPresent, graph_seat, unset}
+use Rattle.core_rule.proofs.Terms.{Command, Entry, Id, Value, Reply, with_cell, count_set, set_cell, write, set_stamp, Graph, Node, after_entry, after_reply, Accepts, IsPresent, graph_seat, unset}
 use Rattle.core_rule.proofs.Terms.{register_value, node, target_node, cell_or_refusal, or_no_field, PointsTo, Points}
 use Rattle.heap_model.specs.declared.command.Command.TheVariants as commands
 use Rattle.heap_model.specs.declared.entry.Entry.TheVariants as entries
@@ -11,7 +11,7 @@ use Rattle.heap_model.specs.declared.graph.cell.Cell.{Cell}
 use Rattle.heap_model.specs.declared.id.Value.TheVariants.{Nil, Number, Object}
 use Rattle.heap_model.specs.declared.reply.Reply.TheVariants as replies
 use Rattle.heap_model.specs.Limits.{stamp_limit}
-use Rattle.heap_model.specs.graph.Replies.{Says, Gets}
+use Rattle.heap_model.specs.graph.Replies.{Says, Gets, SwapsAt}
 use Rattle.core_rule.proofs.growth.Growing.{CameFrom, was_held, was_read, IsSameSize, GrowsFrom}
 use Rattle.core_rule.proofs.growth.RegisterIds.{RegisterHolds}
 use Rattle.core_rule.proofs.growth.SeatGrowth.{set_cases, same_size_unchanged, grows_by_nothing, grows_by_put, grows_by_leave, grows_by_add}
@@ -116,10 +116,15 @@ module _ (g : Graph) (number : ℕ) (present : IsPresent g number) where
       let found = found_cell g (register_value g number r) i (replies.Was stamp) (λ cell reply. (reply ≡ replies.Was cell.stamp) × ((graph_seat g number).sets + 1 < stamp_limit)) (λ e. cc e) (λ e. cc e) sets in
       (found.0, found.1)
 
+  -- nor is a cas that swapped
+  pub swap_finds_its_cell : (r i a v stamp : ℕ) → Says g number (commands.Cas r i a v) (replies.Was stamp) → (cell : Cell) × HasCell g (register_value g number r) i cell
+  swap_finds_its_cell r i a v stamp swaps =
+      let found = found_cell g (register_value g number r) i (replies.Was stamp) (SwapsAt (graph_seat g number).sets (register_cell g number a)) (λ e. cc e) (λ e. cc e) swaps in
+      (found.0, found.1)
+
   -- so it grows the graph
-  grows_set : (r i v stamp : ℕ) → Says g number (commands.Set r i v) (replies.Was stamp) → GrowsFrom g (after_reply g number (commands.Set r i v) (replies.Was stamp))
-  grows_set r i v stamp sets =
-      let found = set_finds_its_cell r i v stamp sets in
+  grows_set : (r i v : ℕ) → ((cell : Cell) × HasCell g (register_value g number r) i cell) → GrowsFrom g (set_cell g number r i v)
+  grows_set r i v found =
       subst (λ value. GrowsFrom g (write (count_set g number) value i (record { value = register_value g number v; stamp = set_stamp number ((graph_seat g number).sets + 1) }))) (sym found.1.refers)
       (grows_written found.1.id i v _ found.1.object found.1.there refl)
 
@@ -128,7 +133,8 @@ module _ (g : Graph) (number : ℕ) (present : IsPresent g number) where
   grows_said (commands.New d fields) (replies.Made id) says = grows_by_add g number present d false fields
   grows_said (commands.Array d cells) (replies.Made id) says = grows_by_add g number present d true cells
   grows_said (commands.Get d r i) (replies.Got value stamp) says = grows_by_put g number present d (record { value = value; stamp = stamp }) (got_came r i value stamp says)
-  grows_said (commands.Set r i v) (replies.Was stamp) says = grows_set r i v stamp says
+  grows_said (commands.Set r i v) (replies.Was stamp) says = grows_set r i v (set_finds_its_cell r i v stamp says)
+  grows_said (commands.Cas r i a v) (replies.Was stamp) says = grows_set r i v (swap_finds_its_cell r i a v stamp says)
   grows_said (commands.Num d n) reply says = grows_by_put g number present d (unseen (Number n)) (λ id e. cc e)
   grows_said (commands.Nil d) reply says = grows_by_put g number present d unset (λ id e. cc e)
   grows_said (commands.Copy d r) reply says = grows_by_put g number present d (register_cell g number r) (λ id e. was_held (record { number = number; register = r; holds = e }))

@@ -1,7 +1,7 @@
 -- What a seat holds is alive.
 use Rattle.std.specs.Prelude.{IsSome}
 use Rattle.std.proofs.Common.{◌≡◌, ℕ, ◌<◌, ◌⊎◌, inl, inr, Some, None, refl, sym, ap, ◌∙◌, subst, arith}
-use Rattle.core_rule.proofs.Terms.{Heap, Node, register_value, Point, LoadingMeta, Walking, Indexing, Getting, LoadingOld, ShadingOld, ShadingNew, Swapping, State, seat_at}
+use Rattle.core_rule.proofs.Terms.{ShadingSide, Replacing, Heap, Node, register_value, Point, LoadingMeta, Walking, Indexing, Getting, LoadingOld, ShadingOld, ShadingNew, Swapping, State, seat_at}
 use Rattle.core_rule.proofs.Terms.{FitsWay, register_in, Seat, head_of, tally, Book, fragment_at, object_number, object_head, Awaits, Holding, node_at, Rule, SeatStands, SetsOut}
 use Rattle.core_rule.proofs.Terms.{Finds, Locates, LoadedKept, OldKept, WayStands}
 use Rattle.core_machine.specs.declared.point.Point.TheVariants as points
@@ -91,6 +91,8 @@ module _ (heap : Heap) (state : State) (book : Book) (rule : Rule heap state boo
   access_alive f ShadingOld fits way awaits holds = either f (reached_alive way.0) (loaded_alive way.1) holds
   access_alive f ShadingNew fits way awaits holds = either f (reached_alive way.0) (old_alive way.1) holds
   access_alive f Swapping fits way awaits holds = either f (reached_alive way.0) (old_alive way.1) holds
+  access_alive f (ShadingSide side) fits way awaits holds = either f (reached_alive way) (nothing_loaded fits.0.3) holds
+  access_alive f Replacing fits way awaits holds = either f (reached_alive way) (nothing_loaded fits.3) holds
 
   call_alive : (f : ℕ) (point : Point) → FitsWay seat point → WayStands nodes book.made book.owner book.fragments seat point
       → Awaits (told_graph heap book) book.made book.owner book.fragments number seat point stands.told.list.awaited → CallHolds seat point f → AliveNow f

@@ -2,7 +2,7 @@
 use Rattle.std.proofs.Common.{◌≡◌, ℕ, ◌+◌, false, Bool, ◌⊎◌, inl, inr, true, List, [], ◌∷◌, length, Option, Some, None, IsSome, refl, sym, ap, ◌∙◌, subst}
 use Rattle.std.specs.Option.{option_map_or}
 use Rattle.std.proofs.lemmas.List.{length-replicate}
-use Rattle.core_rule.proofs.Terms.{array_words, words_by, effect_of, Command, Entry, Id, Board, Made, Reply, with_graph_seat, add, write, count_set, set_stamp, Graph, Node, fresh}
+use Rattle.core_rule.proofs.Terms.{array_words, words_by, effect_of, Command, Entry, Id, Board, Made, Reply, with_graph_seat, add, write, count_set, set_cell, set_stamp, Graph, Node, fresh}
 use Rattle.core_rule.proofs.Terms.{unset, after_entry, after_reply, graph_after, Accepts, AcceptsAll, graph_seat, node, register_value, IsMade, spine_words_of, spine_words_at}
 use Rattle.heap_model.specs.declared.command.Command.TheVariants as commands
 use Rattle.heap_model.specs.declared.entry.Entry.TheVariants as entries
@@ -14,7 +14,7 @@ use Rattle.heap_model.proofs.graph_changes.CellSet.{write_sets_cell}
 use Rattle.heap_model.proofs.graph_changes.GraphGrowth.{added_node_is_object, other_nodes_stay_by_add}
 use Rattle.heap_model.proofs.graph_changes.GraphSeats.{nodes_stay_with_seat}
 use Rattle.core_rule.proofs.graph.Numbering.{same_id_test_decides}
-use Rattle.core_rule.proofs.growth.EntryGrowth.{grows_by_entry, set_finds_its_cell}
+use Rattle.core_rule.proofs.growth.EntryGrowth.{HasCell, grows_by_entry, set_finds_its_cell, swap_finds_its_cell}
 use Rattle.core_rule.proofs.growth.Growing.{GrowsFrom}
 use Rattle.core_rule.proofs.growth.LaterGraphs.{made_stays_after_entry}
 
@@ -43,9 +43,8 @@ module _ (g : Graph) (number : ℕ) (present : (graph_seat g number).left ≡ fa
   makes_seat p words objects = makes_none g (with_graph_seat g number p) words (nodes_stay_with_seat g number p present objects)
 
   -- nor does a set
-  makes_set : (r i v stamp words : ℕ) → Says g number (commands.Set r i v) (replies.Was stamp) → MakesOne g (after_reply g number (commands.Set r i v) (replies.Was stamp)) words
-  makes_set r i v stamp words sets =
-      let found = set_finds_its_cell g number present r i v stamp sets in
+  makes_set : (r i v words : ℕ) → ((cell : Cell) × HasCell g (register_value g number r) i cell) → MakesOne g (set_cell g number r i v) words
+  makes_set r i v words found =
       let cell : Cell = record { value = register_value g number v; stamp = set_stamp number ((graph_seat g number).sets + 1) } in
       let there = write_sets_cell g number found.1.id i cell found.1.object present found.1.there in
       subst (λ value. MakesOne g (write (count_set g number) value i cell) words) (sym found.1.refers) record {
@@ -60,7 +59,8 @@ module _ (g : Graph) (number : ℕ) (present : (graph_seat g number).left ≡ fa
   makes_said (commands.New d fields) (replies.Made id) says = makes_added d fields false 0 refl
   makes_said (commands.Array d cells) (replies.Made id) says = makes_added d cells true (array_words cells) (ap array_words (length-replicate cells unset))
   makes_said (commands.Get d r i) (replies.Got value stamp) says = makes_seat _ _ refl
-  makes_said (commands.Set r i v) (replies.Was stamp) says = makes_set r i v stamp 0 says
+  makes_said (commands.Set r i v) (replies.Was stamp) says = makes_set r i v 0 (set_finds_its_cell g number present r i v stamp says)
+  makes_said (commands.Cas r i a v) (replies.Was stamp) says = makes_set r i v 0 (swap_finds_its_cell g number present r i a v stamp says)
   makes_said (commands.Num d n) reply says = makes_seat _ _ refl
   makes_said (commands.Nil d) reply says = makes_seat _ _ refl
   makes_said (commands.Copy d r) reply says = makes_seat _ _ refl

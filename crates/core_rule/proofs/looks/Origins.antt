@@ -1,6 +1,6 @@
 -- A seat comes to the shade of an old value by the load of it alone, and to the taking back of spine words by their grant alone.
 use Rattle.std.proofs.Common.{◌≡◌, ℕ, ◌+◌, ◌*◌, ◌==◌, ◌++◌, Bool, true, false, if◌then◌else◌, List, length, Option, Some, None, refl, sym, subst}
-use Rattle.core_rule.proofs.Terms.{Command, Heap, Reply, Walking, LoadingOld, ShadingOld, Swapping, Granting, Withdrawing, Bearing, Point, Register, after_begin, source_of}
+use Rattle.core_rule.proofs.Terms.{Replacing, guard_point_of, Command, Heap, Reply, Walking, LoadingOld, ShadingOld, Swapping, Granting, Withdrawing, Bearing, Point, Register, after_begin, source_of}
 use Rattle.core_rule.proofs.Terms.{has_barrier_of, field_point_of, way_point_of, after_link, after_walk, at_access, with_field_place, after_length, after_meta, after_get}
 use Rattle.core_rule.proofs.Terms.{new_point_of, after_old, after_old_load, access_start, gather_next, next_group_of, after_claim, after_budget, store_point, array_length_of}
 use Rattle.core_rule.proofs.Terms.{clear_in, register_in, register_head, Seat}
@@ -12,6 +12,7 @@ use Rattle.core_machine.specs.declared.point.Making.TheVariants.{Storing}
 use Rattle.core_machine.specs.declared.point.Point.TheVariants as points
 use Rattle.core_machine.specs.declared.seat.register.Register.TheVariants as registers
 use Rattle.core_machine.specs.seat.Handshake.{answer_next, after_phase_load, polling_over}
+use Rattle.core_machine.proofs.seat_lemmas.FieldPoints.{guard_point_cases}
 use Rattle.core_machine.proofs.seat_lemmas.Fitting.{goes_on_cases, settled_cases, returning_cases, budget_cases}
 use Rattle.core_rule.proofs.entries.PhasesTold.{over_cases}
 
@@ -44,6 +45,11 @@ field_point_is_usual seat (commands.Set r i v) = by (has_barrier_of seat)
   where
     by : (b : Bool) → IsUsual (points.Access (if b then LoadingOld else Swapping))
     by true = tt
+    by false = tt
+field_point_is_usual seat (commands.Cas r i a v) = by (has_barrier_of seat)
+  where
+    by : (b : Bool) → IsUsual (points.Access (if b then guard_point_of seat else Replacing))
+    by true = guard_point_cases (λ p. IsUsual (points.Access p)) seat (λ some. tt) (λ none some. tt) (λ none neither. tt)
     by false = tt
 field_point_is_usual seat _ = tt
 
@@ -126,6 +132,7 @@ pub begin_is_usual : (heap : Heap) (seat : Seat) (command : Command) → seat.po
 begin_is_usual heap seat (commands.New d fields) idle = gather_usual heap (record seat { command = commands.New d fields })
 begin_is_usual heap seat (commands.Get d r i) idle = start_usual (record seat { command = commands.Get d r i }) (register_in seat.registers r)
 begin_is_usual heap seat (commands.Set r i v) idle = start_usual (record seat { command = commands.Set r i v }) (register_in seat.registers r)
+begin_is_usual heap seat (commands.Cas r i a v) idle = start_usual (record seat { command = commands.Cas r i a v }) (register_in seat.registers r)
 begin_is_usual heap seat (commands.Len r) idle = start_usual (record seat { command = commands.Len r }) (register_in seat.registers r)
 begin_is_usual heap seat commands.Collect idle = subst IsUsual (sym idle) tt
 begin_is_usual heap seat _ idle = tt

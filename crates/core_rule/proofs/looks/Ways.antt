@@ -62,6 +62,8 @@ stays_found_after_begin heap seat (commands.Get d r i) idle =
     let stays = stays_start (record seat { command = commands.Get d r i }) (register_in seat.registers r) in record { looks = stays.looks; elsewhere = stays.elsewhere }
 stays_found_after_begin heap seat (commands.Set r i v) idle =
     let stays = stays_start (record seat { command = commands.Set r i v }) (register_in seat.registers r) in record { looks = stays.looks; elsewhere = stays.elsewhere }
+stays_found_after_begin heap seat (commands.Cas r i a v) idle =
+    let stays = stays_start (record seat { command = commands.Cas r i a v }) (register_in seat.registers r) in record { looks = stays.looks; elsewhere = stays.elsewhere }
 stays_found_after_begin heap seat (commands.Len r) idle =
     let stays = stays_start (record seat { command = commands.Len r }) (register_in seat.registers r) in record { looks = stays.looks; elsewhere = stays.elsewhere }
 stays_found_after_begin heap seat _ idle = record { looks = refl; elsewhere = tt }

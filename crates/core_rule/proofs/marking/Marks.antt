@@ -1,6 +1,6 @@
 -- What a seat's step has to leave of marking.
 use Rattle.std.proofs.Common.{◌≡◌, ◌≢◌, ℕ, ◌<◌, ◌%◌, false, List, inl, inr, refl, sym, ◌∙◌, subst, arith}
-use Rattle.core_rule.proofs.Terms.{cycle_phases, Heap, phase, Collector, Stage, LoadingMeta, Walking, Indexing, Getting, LoadingOld, ShadingOld, ShadingNew, Swapping, Point, State}
+use Rattle.core_rule.proofs.Terms.{ShadingSide, Replacing, cycle_phases, Heap, phase, Collector, Stage, LoadingMeta, Walking, Indexing, Getting, LoadingOld, ShadingOld, ShadingNew, Swapping, Point, State}
 use Rattle.core_rule.proofs.Terms.{seat_at, register_in, register_head, Seat, head_of, Book, Colour, Grey, WordPointsTo, IsBetween, WhileAccess, IsKeptFragment, ScanStands, IsFewWords}
 use Rattle.core_rule.proofs.Terms.{PassStands, MarkingStands, SweepStands, HasMarked, IsSettled, Owner, Free, Taken, Borne, Kept, Dead, born_bit, IsReached, Rule}
 use Rattle.heap_model.specs.PhasePlan.{clearing as clearing_phase, marking as marking_phase}
@@ -36,6 +36,8 @@ roots_hold_still P Q more seat roots = record {
     each ShadingOld holds = (more seat.reached holds.0, if_some_goes_on P Q more (head_of seat.loaded) holds.1)
     each ShadingNew holds = more seat.reached holds
     each Swapping holds = more seat.reached holds
+    each (ShadingSide side) holds = more seat.reached holds
+    each Replacing holds = more seat.reached holds
 
 -- the call isn't on a way to a field
 abbrev pub IsOffWay : Point → Type 0

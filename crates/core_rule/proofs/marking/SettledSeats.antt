@@ -1,6 +1,6 @@
 -- A seat once marking has ended: what it names is kept then.
 use Rattle.std.proofs.Common.{ℕ, List, IfSome, ap, subst}
-use Rattle.core_rule.proofs.Terms.{Entry, Id, Value, Graph, Node, LoadingMeta, Walking, Indexing, Getting, LoadingOld, ShadingOld, ShadingNew, Swapping, Point, Register, object_of}
+use Rattle.core_rule.proofs.Terms.{ShadingSide, Replacing, Entry, Id, Value, Graph, Node, LoadingMeta, Walking, Indexing, Getting, LoadingOld, ShadingOld, ShadingNew, Swapping, Point, Register, object_of}
 use Rattle.core_rule.proofs.Terms.{register_in, register_head, Seat, head_of, Colour, fragment_at, IsMarked, Awaits, IsKept, Owner, HoldsValue, OnWay, Finds, Locates, LoadedKept}
 use Rattle.core_rule.proofs.Terms.{WayStands}
 use Rattle.heap_model.specs.declared.id.Value.TheVariants as values
@@ -67,6 +67,8 @@ module _ (made : List Id) (owner : ℕ → Owner) (colour : ℕ → Colour) (fra
     way_stands_after_settling nodes (points.Access ShadingOld) way = (finds_later nodes way.0, old_later way.1)
     way_stands_after_settling nodes (points.Access ShadingNew) way = (finds_later nodes way.0, λ some. old_later (way.1 some))
     way_stands_after_settling nodes (points.Access Swapping) way = (finds_later nodes way.0, λ some. old_later (way.1 some))
+    way_stands_after_settling nodes (points.Access (ShadingSide side)) way = finds_later nodes way
+    way_stands_after_settling nodes (points.Access Replacing) way = finds_later nodes way
     way_stands_after_settling nodes _ way = way
 
     -- and the name that its own list awaits

@@ -59,6 +59,7 @@ module _ (heap : Heap) (state : State) (told : List Entry) (s : StandsFor heap s
     has_number_left (commands.New d fields) has = rw made_is_object_count has
     has_number_left (commands.Array d cells) has = rw made_is_object_count has
     has_number_left (commands.Set r i v) has = rw sets_are has
+    has_number_left (commands.Cas r i a v) has = rw sets_are has
     has_number_left _ has = tt
 
 -- the word of a seat that hasn't left is its last answer

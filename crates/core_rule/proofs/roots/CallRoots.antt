@@ -49,6 +49,7 @@ module _ (P : ℕ → Type 0) where
   pub roots_hold_at_begin : (heap : Heap) (seat : Seat) (command : Command) → (IsRecordCall command → ⊥) → IsServed command → OfHeads P seat.registers → OfRoots P (call_start heap seat command)
   roots_hold_at_begin heap seat (commands.Get d r i) other served heads = start_roots seat (register_in seat.registers r) heads (heads r)
   roots_hold_at_begin heap seat (commands.Set r i v) other served heads = start_roots seat (register_in seat.registers r) heads (heads r)
+  roots_hold_at_begin heap seat (commands.Cas r i a v) other served heads = start_roots seat (register_in seat.registers r) heads (heads r)
   roots_hold_at_begin heap seat (commands.Len r) other served heads = start_roots seat (register_in seat.registers r) heads (heads r)
   roots_hold_at_begin heap seat (commands.New d fields) other served heads = absurd (other tt)
   roots_hold_at_begin heap seat commands.Collect other served heads = absurd served

@@ -1,6 +1,6 @@
 -- Where nothing is grey, each seat's roots are marked: those of a seat that has answered the phase, and one that has left has none.
 use Rattle.std.proofs.Common.{◌≡◌, ◌≢◌, ℕ, ◌<◌, Bool, true, false, IfSome, refl, sym, ◌∙◌, subst, arith}
-use Rattle.core_rule.proofs.Terms.{Heap, phase, IsMarking, LoadingMeta, Walking, Indexing, Getting, LoadingOld, ShadingOld, ShadingNew, Swapping, Point, State, seat_at, FitsWay}
+use Rattle.core_rule.proofs.Terms.{ShadingSide, Replacing, Heap, phase, IsMarking, LoadingMeta, Walking, Indexing, Getting, LoadingOld, ShadingOld, ShadingNew, Swapping, Point, State, seat_at, FitsWay}
 use Rattle.core_rule.proofs.Terms.{Seat, head_of, Book, Grey, IsMarked, ShadedStands, WhileAccess, IsReached, Rule, HasMarked}
 use Rattle.core_machine.specs.declared.point.Access.TheVariants.{LoadingSpot, Naming}
 use Rattle.core_machine.specs.declared.point.Point.TheVariants as points
@@ -56,6 +56,8 @@ module _ (heap : Heap) (state : State) (book : Book) (rule : Rule heap state boo
       let third = marks.for_marking in
       let same = rule.collector_stands.phase_told in
       (shaded (record { from = omega (arith, answered, third, same); upto = omega (arith, answered, third, same) })).0
+  loaded_by_point (points.Access (ShadingSide side)) is fits call shaded = nothing_loaded fits.0.3
+  loaded_by_point (points.Access Replacing) is fits call shaded = nothing_loaded fits.3
   loaded_by_point points.Idle is fits call shaded = nothing_loaded fits.none_loaded
   loaded_by_point (points.Making point) is fits call shaded = nothing_loaded fits.none_loaded
   loaded_by_point points.Local is fits call shaded = nothing_loaded fits.none_loaded

@@ -1,10 +1,12 @@
 -- The rule holds when a heap opens.
-use Rattle.std.proofs.Common.{◌≡◌, ◌≢◌, ℕ, zero, suc, ◌+◌, ◌%◌, ◌<◌, inl, List, [], ◌∷◌, length, get_or, replicate, refl, sym, ap, ◌∙◌, subst, arith, inr}
+use Rattle.std.proofs.Common.{◌≡◌, ◌≢◌, ℕ, zero, suc, ◌+◌, ◌%◌, ◌^◌, ◌<◌, inl, List, [], ◌∷◌, length, map, get_or, replicate, refl, sym, ap, ◌∙◌, subst, arith, inr}
 use Rattle.std.proofs.lemmas.Bool.{lt-ltb}
+use Rattle.std.proofs.lemmas.List.Elements.{All-replicate}
 use Rattle.std.proofs.lemmas.List.FromFn.{get_or-map-range_with_len}
 use Rattle.core_rule.proofs.Terms.{cycle_phases, Heap, Value, opening, Budget, Register, Collector, at, State, seat_at, Seat, absent_seat, IsMachine, White, StandsFor, unset}
 use Rattle.core_rule.proofs.Terms.{MarkingStands, IsSettled, Dead, holds_bit, bears_bit, CollectorAgrees, Registers, Rule, SeatStands}
 use Rattle.heap_model.specs.PhasePlan.{marking as marking_phase}
+use Rattle.heap_model.specs.declared.graph.cell.Cell.{Cell}
 use Rattle.heap_model.specs.declared.id.Id.TheVariants as ids
 use Rattle.heap_model.specs.declared.id.Value.TheVariants as values
 use Rattle.heap_model.specs.Heap.{IsHeap}
@@ -63,6 +65,7 @@ opening_seat_stands heap words number below none_answered = record {
     counts = record {
       numbered = ap (λ (p : GraphSeat). length p.objects) (sym (opening_graph_has_opening_seats heap number below));
       stamped = ap (λ (p : GraphSeat). p.sets) (sym (opening_graph_has_opening_seats heap number below));
+      seen = record { stamps = ap (λ (p : GraphSeat). map (λ (cell : Cell). cell.stamp) p.registers) (sym (opening_graph_has_opening_seats heap number below)); small = All-replicate (λ stamp. stamp < 2 ^ 32) 16 0 (omega arith) };
       leaves = ap (λ (p : GraphSeat). p.left) (opening_graph_has_opening_seats heap number below);
       unborn = refl;
     };

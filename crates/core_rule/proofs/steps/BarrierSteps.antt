@@ -22,6 +22,7 @@ use Rattle.core_rule.proofs.steps.Loads.{went, loaded_state, keeps_rule_by_silen
 use Rattle.core_rule.proofs.entries.SeatLists.{own_list_after_entry}
 use Rattle.core_rule.proofs.colours.ShadeColours.{with_mark}
 use Rattle.core_rule.proofs.steps.ShadeStep.{shading, words_shaded, keeps_rule_by_shade, shaded_within_heap, answer_same_after_shade, borne_colour_same_after_shade}
+use Rattle.core_rule.proofs.graph.SeenStamps.{stamps_stay, busy_is_unnamed, awaits_none_is_unnamed}
 use Rattle.core_rule.proofs.graph.ToldGraph.{told_graph}
 
 -- where the new value goes next
@@ -57,17 +58,19 @@ module _ (heap : Heap) (state : State) (book : Book) (number : ℕ) (rule : Rule
 
   -- a load that leads on
   pub keeps_rule_by_leading_load : (loaded : ℕ) (next : Access) → Unnamed next
-      → AddressAt heap state.words book (went seat seat.registers seat.reached seat.links seat.part seat.address loaded (points.Access next) seat.looks []) (points.Access next)
-      → AccessStands (node_at (told_graph heap book) book.made) book.made book.owner book.fragments (went seat seat.registers seat.reached seat.links seat.part seat.address loaded (points.Access next) seat.looks []) next
-      → (IsBetween 2 5 p → FieldStands heap state.words book.colour (went seat seat.registers seat.reached seat.links seat.part seat.address loaded (points.Access next) seat.looks []) next)
-      → ShadedStands book.colour (went seat seat.registers seat.reached seat.links seat.part seat.address loaded (points.Access next) seat.looks []) next
-      → CallGoesOn (went seat seat.registers seat.reached seat.links seat.part seat.address loaded (points.Access next) seat.looks []) next
-      → IsMachine heap (loaded_state heap state number (Word seat.reached seat.part) (went seat seat.registers seat.reached seat.links seat.part seat.address loaded (points.Access next) seat.looks []))
-      → Keeps heap state (loaded_state heap state number (Word seat.reached seat.part) (went seat seat.registers seat.reached seat.links seat.part seat.address loaded (points.Access next) seat.looks [])) book book.begun []
+      → AddressAt heap state.words book (went seat seat.registers seat.seen seat.reached seat.links seat.part seat.address loaded (points.Access next) seat.looks []) (points.Access next)
+      → AccessStands (node_at (told_graph heap book) book.made) book.made book.owner book.fragments (went seat seat.registers seat.seen seat.reached seat.links seat.part seat.address loaded (points.Access next) seat.looks []) next
+      → (IsBetween 2 5 p → FieldStands heap state.words book.colour (went seat seat.registers seat.seen seat.reached seat.links seat.part seat.address loaded (points.Access next) seat.looks []) next)
+      → ShadedStands book.colour (went seat seat.registers seat.seen seat.reached seat.links seat.part seat.address loaded (points.Access next) seat.looks []) next
+      → CallGoesOn (went seat seat.registers seat.seen seat.reached seat.links seat.part seat.address loaded (points.Access next) seat.looks []) next
+      → IsMachine heap (loaded_state heap state number (Word seat.reached seat.part) (went seat seat.registers seat.seen seat.reached seat.links seat.part seat.address loaded (points.Access next) seat.looks []))
+      → Keeps heap state (loaded_state heap state number (Word seat.reached seat.part) (went seat seat.registers seat.seen seat.reached seat.links seat.part seat.address loaded (points.Access next) seat.looks [])) book book.begun []
   keeps_rule_by_leading_load loaded next names address way field shaded comes machine =
       let stands = rule.seats_stand number here in
-      let new : Seat = went seat seat.registers seat.reached seat.links seat.part seat.address loaded (points.Access next) seat.looks [] in
-      keeps_rule_by_silent_load heap state book number rule here (Word seat.reached seat.part) seat.registers seat.reached seat.links seat.part seat.address loaded (points.Access next) seat.looks [] machine (rw point tt) tt
+      let new : Seat = went seat seat.registers seat.seen seat.reached seat.links seat.part seat.address loaded (points.Access next) seat.looks [] in
+      keeps_rule_by_silent_load heap state book number rule here (Word seat.reached seat.part) seat.registers seat.seen seat.reached seat.links seat.part seat.address loaded (points.Access next) seat.looks [] machine (rw point tt) tt
+      (stamps_stay seat new (points.Access from) (points.Access next) point refl (busy_is_unnamed (points.Access from) unanswered)
+      (awaits_none_is_unnamed (told_graph heap book) book.made book.owner book.fragments number new (points.Access next) (names new)) refl)
       (λ r unawaited. registers_hold_values r)
       (own_list_after_entry (told_graph heap book) book.made book.owner book.fragments number seat book.history busy stands.told.list (told_graph heap book) book.history new [] [] [] refl refl (sym (append-nil (filter (is_of number) book.history))) (names new))
       way address
@@ -106,7 +109,7 @@ module _ (heap : Heap) (state : State) (book : Book) (number : ℕ) (rule : Rule
         keeps_rule_by_shade heap state book number rule here f head.index head.kept head.is seat.shaded (points.Access next) (barrier_is_not_resting p seat.answered (answer_is_near_phase heap state book number rule here from point) (barrier_is_between seat on)) machine
         (λ r unawaited. registers_hold_values r)
         (own_list_after_entry (told_graph heap book) book.made book.owner book.fragments number seat book.history busy stands.told.list (told_graph heap book) book.history new [] [] [] refl refl (sym (append-nil (filter (is_of number) book.history))) (names new))
-        way (rw point tt) tt address busy
+        way (rw point tt) tt (awaits_none_is_unnamed (told_graph heap book) book.made book.owner book.fragments number new (points.Access next) (names new)) address busy
         (seat_in_cycle_by_flight heap state.words (words_shaded heap state book number rule here f head.index head.kept head.is) book.owner book.owner book.colour coloured p
         (last_answer number book.history) (has_left number book.history) number seat new
         record { answered = refl; left = refl; asked = refl } (answer_same_after_shade heap state book number rule here f head.index head.kept head.is number here) tt

@@ -4,8 +4,8 @@ use Rattle.std.proofs.lemmas.Bool.{eq-eqb}
 use Rattle.std.proofs.lemmas.List.{append-nil}
 use Rattle.heap_words.specs.declared.spot.Spot.{Spot}
 use Rattle.core_rule.proofs.Terms.{Command, Entry, Said, Heap, Reply, KeepsSpace, graph_of, effect_of, no_effect, after_reply, Accepts, phase, last_answer, has_left, is_leave_of}
-use Rattle.core_rule.proofs.Terms.{Graph, Point, Register, target_of, IsAtRest, IsSilent, at, put, State, seat_at, has_barrier_of, Seat, no_spot, with_entries, call_over}
-use Rattle.core_rule.proofs.Terms.{after_call, IsMachine, Book, OwnList, SeatInCycle, Began, IsAnswered, node_at, Registers, Rule, OwnStands, AddressStands, WayStands}
+use Rattle.core_rule.proofs.Terms.{Graph, Point, Register, target_of, IsAtRest, IsSilent, at, put, State, seat_at, Seat, no_spot, with_entries, call_over}
+use Rattle.core_rule.proofs.Terms.{SeenStands, stamps_at, after_call, IsMachine, Book, OwnList, SeatInCycle, Began, IsAnswered, node_at, Registers, Rule, OwnStands, AddressStands, WayStands}
 use Rattle.core_machine.specs.declared.table.address.Address.{Address}
 use Rattle.core_machine.specs.declared.point.Point.TheVariants as points
 use Rattle.core_machine.specs.declared.seat.looks.Looks.{Looks}
@@ -31,42 +31,42 @@ use Rattle.core_rule.proofs.entries.Legality.{legal_after_entry}
 use Rattle.core_rule.proofs.cycle.CycleFrames.{leaves_cycle_unchanged}
 use Rattle.core_rule.proofs.cycle.Unwatched.{IsUnwatchedAt, seat_in_cycle_unwatched}
 
--- the seat with other registers, elsewhere on its way, with what it has found for its collects, and with more entries
-abbrev pub went : Seat → List Register → ℕ → ℕ → ℕ → Spot → ℕ → Point → Looks → List Entry → Seat
-went seat registers reached links part address loaded point looks added =
-    record seat { registers = registers; reached = reached; links = links; part = part; address = address; loaded = loaded; point = point; looks = looks; mine = seat.mine ++ added }
+-- the seat with other registers and their stamps, elsewhere on its way, with what it has found for its collects, and with more entries
+abbrev pub went : Seat → List Register → List ℕ → ℕ → ℕ → ℕ → Spot → ℕ → Point → Looks → List Entry → Seat
+went seat registers seen reached links part address loaded point looks added =
+    record seat { registers = registers; seen = seen; reached = reached; links = links; part = part; address = address; loaded = loaded; point = point; looks = looks; mine = seat.mine ++ added }
 
 -- the state after a load, which writes back what it found
 abbrev pub loaded_state : Heap → State → ℕ → Address → Seat → State
 loaded_state heap state number a seat = record state { words = put heap state.words a (at heap state.words a); seats = slice_set state.seats number seat }
 
 -- a call that has its way alone is over where its way is
-pub keeps_rule_by_ending_load : (heap : Heap) (state : State) (book : Book) (number : ℕ) (a : Address) (registers : List Register) (looks : Looks) (added shown : List Entry)
+pub keeps_rule_by_ending_load : (heap : Heap) (state : State) (book : Book) (number : ℕ) (a : Address) (registers : List Register) (seen : List ℕ) (looks : Looks) (added shown : List Entry)
     → IsAtRest (seat_at state number) → IsSilent (seat_at state number)
-    → (IsMachine heap (loaded_state heap state number a (went (seat_at state number) registers 0 0 0 no_spot 0 points.Idle looks added))
-    → Keeps heap state (loaded_state heap state number a (went (seat_at state number) registers 0 0 0 no_spot 0 points.Idle looks added)) book book.begun shown)
-    → IsMachine heap (loaded_state heap state number a (with_entries (record (call_over (record (seat_at state number) { registers = registers })) { looks = looks }) added))
-    → Keeps heap state (loaded_state heap state number a (with_entries (record (call_over (record (seat_at state number) { registers = registers })) { looks = looks }) added)) book book.begun shown
-keeps_rule_by_ending_load heap state book number a registers looks added shown rest silent keeps =
+    → (IsMachine heap (loaded_state heap state number a (went (seat_at state number) registers seen 0 0 0 no_spot 0 points.Idle looks added))
+    → Keeps heap state (loaded_state heap state number a (went (seat_at state number) registers seen 0 0 0 no_spot 0 points.Idle looks added)) book book.begun shown)
+    → IsMachine heap (loaded_state heap state number a (with_entries (record (call_over (record (seat_at state number) { registers = registers; seen = seen })) { looks = looks }) added))
+    → Keeps heap state (loaded_state heap state number a (with_entries (record (call_over (record (seat_at state number) { registers = registers; seen = seen })) { looks = looks }) added)) book book.begun shown
+keeps_rule_by_ending_load heap state book number a registers seen looks added shown rest silent keeps =
     let seat : Seat = seat_at state number in
-    let same : with_entries (record (call_over (record seat { registers = registers })) { looks = looks }) added ≡ went seat registers 0 0 0 no_spot 0 points.Idle looks added
-    = ap (λ (s : Seat). record s { registers = registers; looks = looks; mine = seat.mine ++ added }) (call_over_clears_way seat rest silent) in
+    let same : with_entries (record (call_over (record seat { registers = registers; seen = seen })) { looks = looks }) added ≡ went seat registers seen 0 0 0 no_spot 0 points.Idle looks added
+    = ap (λ (s : Seat). record s { registers = registers; seen = seen; looks = looks; mine = seat.mine ++ added }) (call_over_clears_way seat rest silent) in
     subst (λ (s : Seat). IsMachine heap (loaded_state heap state number a s) → Keeps heap state (loaded_state heap state number a s) book book.begun shown) (sym same) keeps
 
 -- and has forgotten what was found before where it ends with its reply
-pub keeps_rule_by_forgetting_load : (heap : Heap) (state : State) (book : Book) (number : ℕ) (a : Address) (registers : List Register) (added shown : List Entry)
+pub keeps_rule_by_forgetting_load : (heap : Heap) (state : State) (book : Book) (number : ℕ) (a : Address) (registers : List Register) (seen : List ℕ) (added shown : List Entry)
     → IsAtRest (seat_at state number) → IsSilent (seat_at state number)
-    → (IsMachine heap (loaded_state heap state number a (went (seat_at state number) registers 0 0 0 no_spot 0 points.Idle (forgotten (seat_at state number).looks) added))
-    → Keeps heap state (loaded_state heap state number a (went (seat_at state number) registers 0 0 0 no_spot 0 points.Idle (forgotten (seat_at state number).looks) added)) book book.begun shown)
-    → IsMachine heap (loaded_state heap state number a (with_entries (after_call (record (seat_at state number) { registers = registers })) added))
-    → Keeps heap state (loaded_state heap state number a (with_entries (after_call (record (seat_at state number) { registers = registers })) added)) book book.begun shown
-keeps_rule_by_forgetting_load heap state book number a registers added shown rest silent keeps = keeps_rule_by_ending_load heap state book number a registers (forgotten (seat_at state number).looks) added shown rest silent keeps
+    → (IsMachine heap (loaded_state heap state number a (went (seat_at state number) registers seen 0 0 0 no_spot 0 points.Idle (forgotten (seat_at state number).looks) added))
+    → Keeps heap state (loaded_state heap state number a (went (seat_at state number) registers seen 0 0 0 no_spot 0 points.Idle (forgotten (seat_at state number).looks) added)) book book.begun shown)
+    → IsMachine heap (loaded_state heap state number a (with_entries (after_call (record (seat_at state number) { registers = registers; seen = seen })) added))
+    → Keeps heap state (loaded_state heap state number a (with_entries (after_call (record (seat_at state number) { registers = registers; seen = seen })) added)) book book.begun shown
+keeps_rule_by_forgetting_load heap state book number a registers seen added shown rest silent keeps = keeps_rule_by_ending_load heap state book number a registers seen (forgotten (seat_at state number).looks) added shown rest silent keeps
 
 module _ (heap : Heap) (state : State) (book : Book) (number : ℕ) (rule : Rule heap state book) (here : number < heap.seats) (a : Address)
-    (registers : List Register) (reached links part : ℕ) (address : Spot) (loaded : ℕ) (point : Point) (looks : Looks) (added : List Entry)
-    (machine : IsMachine heap (loaded_state heap state number a (went (seat_at state number) registers reached links part address loaded point looks added))) where
+    (registers : List Register) (seen : List ℕ) (reached links part : ℕ) (address : Spot) (loaded : ℕ) (point : Point) (looks : Looks) (added : List Entry)
+    (machine : IsMachine heap (loaded_state heap state number a (went (seat_at state number) registers seen reached links part address loaded point looks added))) where
   abbrev new : Seat
-  new = went (seat_at state number) registers reached links part address loaded point looks added
+  new = went (seat_at state number) registers seen reached links part address loaded point looks added
 
   -- the words are written back
   same_machine : IsMachine heap (record state { words = state.words; seats = slice_set state.seats number new })
@@ -77,7 +77,7 @@ module _ (heap : Heap) (state : State) (book : Book) (number : ℕ) (rule : Rule
   from_same begun shown keeps = subst (λ words. Keeps heap state (record state { words = words; seats = slice_set state.seats number new }) book begun shown) (sym (put_of_read_changes_nothing heap state.words a)) keeps
 
   -- the seat has its standing in the cycle where it shades nothing
-  pub seat_in_cycle_after_load : IsUnwatchedAt (has_barrier_of (seat_at state number)) point
+  pub seat_in_cycle_after_load : IsUnwatchedAt new point
       → SeatInCycle heap state.words (phase book.history) (last_answer number book.history) (has_left number book.history) book.owner book.colour number new
   seat_in_cycle_after_load unwatched =
       let cycle = (rule.seats_stand number here).cycle in
@@ -101,7 +101,7 @@ module _ (heap : Heap) (state : State) (book : Book) (number : ℕ) (rule : Rule
       }
 
   -- nothing is shown
-  pub keeps_rule_by_silent_load : MakesNone (seat_at state number).point → MakesNone point
+  pub keeps_rule_by_silent_load : MakesNone (seat_at state number).point → MakesNone point → stamps_at new point ≡ stamps_at (seat_at state number) (seat_at state number).point
       → Registers (graph_of heap book.history) book.made book.owner book.fragments number registers point (target_of (seat_at state number).command)
       → OwnList (graph_of heap book.history) book.history book.made book.owner book.fragments number new
       → WayStands (node_at (graph_of heap book.history) book.made) book.made book.owner book.fragments new point
@@ -110,7 +110,7 @@ module _ (heap : Heap) (state : State) (book : Book) (number : ℕ) (rule : Rule
       → SeatInCycle heap state.words (phase book.history) (last_answer number book.history) (has_left number book.history) book.owner book.colour number new
       → RootsGoOn heap state book rule number here new
       → Keeps heap state (loaded_state heap state number a new) book book.begun []
-  keeps_rule_by_silent_load before after held list way address began cycle roots =
+  keeps_rule_by_silent_load before after same_stamps held list way address began cycle roots =
       let stands = rule.seats_stand number here in
       from_same book.begun []
       (keeps_rule_after_step heap state book number state.words new book [] rule here same_machine (sym (append-nil book.history)) refl rule.heap_stands
@@ -119,7 +119,7 @@ module _ (heap : Heap) (state : State) (book : Book) (number : ℕ) (rule : Rule
         names = record { registers = held; way = way; address = address };
         told = record {
           list = list;
-          counts = counts_agree_without_entry (graph_of heap book.history) book.history number (seat_at state number) new refl refl refl refl stands.told.counts;
+          counts = counts_agree_without_entry (graph_of heap book.history) book.history number (seat_at state number) new refl refl same_stamps refl refl stands.told.counts;
           began = began;
           gathers = stands.told.gathers;
           used = used_stands_where_none_made heap book.history number new point after;
@@ -136,7 +136,7 @@ module _ (heap : Heap) (state : State) (book : Book) (number : ℕ) (rule : Rule
       (after : Graph) (grows : after_reply (graph_of heap book.history) number command reply ≡ after) (only : OnlyRegisters (graph_of heap book.history) after number) where
     -- a reply is shown
     pub keeps_rule_by_telling_load : MakesNone (seat_at state number).point → MakesNone point → Accepts (graph_of heap book.history) (Said number command reply) → KeepsSpace heap false book.history (Said number command reply)
-        → Registers after book.made book.owner book.fragments number registers point (target_of (seat_at state number).command)
+        → SeenStands after number (stamps_at new point) → Registers after book.made book.owner book.fragments number registers point (target_of (seat_at state number).command)
         → OwnList after (book.history ++ Said number command reply ∷ []) book.made book.owner book.fragments number new
         → WayStands (node_at after book.made) book.made book.owner book.fragments new point
         → AddressStands heap state.words (node_at after book.made) book.owner book.fragments book.spines book.spine_owner new point
@@ -144,7 +144,7 @@ module _ (heap : Heap) (state : State) (book : Book) (number : ℕ) (rule : Rule
         → SeatInCycle heap state.words (phase book.history) (last_answer number book.history) (has_left number book.history) book.owner book.colour number new
         → RootsGoOn heap state book rule number here new
         → Keeps heap state (loaded_state heap state number a new) book book.begun (Said number command reply ∷ [])
-    keeps_rule_by_telling_load before then accepts keeps held list way address answers stays cycle roots =
+    keeps_rule_by_telling_load before then accepts keeps seen_right held list way address answers stays cycle roots =
         let entry : Entry = Said number command reply in
         let g : Graph = graph_of heap book.history in
         let stands = rule.seats_stand number here in
@@ -159,7 +159,7 @@ module _ (heap : Heap) (state : State) (book : Book) (number : ℕ) (rule : Rule
         (rw grows record {
           list = list;
           counts = counts_agree_after_own g after book.history number (seat_at state number) new stands.told.counts entry (eq-eqb number number refl)
-              (stands.told.counts.numbered ∙ sym only.changes.objects) (stands.told.counts.stamped ∙ sym only.changes.sets) (only.left ∙ stands.told.counts.leaves)
+              (stands.told.counts.numbered ∙ sym only.changes.objects) (stands.told.counts.stamped ∙ sym only.changes.sets) seen_right (only.left ∙ stands.told.counts.leaves)
               (omega (arith, effect_summand_is_none entry (λ e. e.given) nothing refl, effect_summand_is_none entry (λ e. e.born) nothing refl, effect_summand_is_none entry (λ e. e.taken) nothing refl));
           began = began_after_reply book.history entry number (book.begun number) (seat_at state number).point point answers stands.told.began;
           gathers = gathers_right_after_entry heap book.owner number book.history (book.begun number) entry (seat_at state number).cursor (seat_at state number).tried (seat_at state number).given stands.told.began.earlier stands.told.gathers;

@@ -42,7 +42,7 @@ pub record SeatTells (old now : Seat) (entry : Entry) : Type 0 where
 pub keeps_rule_by_local_reply : (heap : Heap) (state : State) (book : Book) (number : ℕ) (a : Address) (now : Seat) (reply : Reply) → (rule : Rule heap state book) → (here : number < heap.seats)
     → IsMachine heap (record state { words = put heap state.words a (at heap state.words a); seats = slice_set state.seats number now })
     → MakesNone (seat_at state number).point → IsAtRest (seat_at state number) → (seat_at state number).mine ≡ filter (is_of number) book.history → (graph_seat (graph_of heap book.history) number).left ≡ false → IsCommand (seat_at state number).command
-    → IsLocalReply heap book.history (graph_of heap book.history) number book.made book.owner book.fragments (seat_at state number).command reply now.registers
+    → IsLocalReply heap book.history (graph_of heap book.history) number book.made book.owner book.fragments (seat_at state number).command reply now.registers now.seen
     → is_leave_of number (entries.Said number (seat_at state number).command reply) ≡ false
     → SeatTells (seat_at state number) now (entries.Said number (seat_at state number).command reply)
     → RootsGoOn heap state book rule number here now
@@ -68,6 +68,7 @@ keeps_rule_by_local_reply heap state book number a now reply rule here machine m
       made = tells.made ∙ counts.numbered ∙ sym local.only.changes.objects;
       sets = tells.sets ∙ counts.stamped ∙ sym local.only.changes.sets;
       left = local.only.left ∙ counts.leaves ∙ sym tells.left;
+      seen = local.seen_right;
       registers = local.registers;
     }
     (subst (λ ws. HeapInCycle heap ws (phase book.history) book.owner book.colour book.fragments) (sym same) rule.heap_stands.cycle)

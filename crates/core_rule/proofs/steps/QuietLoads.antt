@@ -1,5 +1,5 @@
 -- A load that is noted nowhere keeps the rule: the call is over there, or goes on at a point of its own.
-use Rattle.std.proofs.Common.{◌≡◌, ℕ, ◌<◌, [], filter, refl, ◌∙◌}
+use Rattle.std.proofs.Common.{◌≡◌, ℕ, ◌<◌, [], filter, refl, sym, ◌∙◌}
 use Rattle.std.proofs.lemmas.List.{append-nil}
 use Rattle.core_rule.proofs.Terms.{Heap, is_of, State, seat_at, IsMachine, target_of, IsAtRest, IsSilent, Seat, no_spot, with_entries, call_over, Book, IsAnswered, IsAwaited, Rule}
 use Rattle.core_rule.proofs.Terms.{SeatStands}
@@ -12,6 +12,7 @@ use Rattle.core_rule.proofs.roots.CallRoots.{IsReachedNow}
 use Rattle.core_rule.proofs.marking.Marks.{roots_hold_off_way}
 use Rattle.core_rule.proofs.budgets.NoneMade.{MakesNone}
 use Rattle.core_rule.proofs.steps.Assemble.{Keeps}
+use Rattle.core_rule.proofs.graph.SeenStamps.{IsUnnamed, busy_is_unnamed, stamps_are_own}
 use Rattle.core_rule.proofs.steps.Loads.{went, seat_in_cycle_after_load, loaded_state, keeps_rule_by_silent_load, keeps_rule_by_ending_load}
 
 module _ (heap : Heap) (state : State) (book : Book) (number : ℕ) (rule : Rule heap state book) (here : number < heap.seats) (a : Address) (looks : Looks)
@@ -23,17 +24,20 @@ module _ (heap : Heap) (state : State) (book : Book) (number : ℕ) (rule : Rule
   stands : SeatStands heap state.words book number seat
   stands = rule.seats_stand number here
 
+  unnamed : IsUnnamed seat.point
+  unnamed = busy_is_unnamed seat.point busy
+
   -- the call is over
   pub keeps_rule_by_quiet_end : IsMachine heap (loaded_state heap state number a (with_entries (record (call_over seat) { looks = looks }) []))
       → Keeps heap state (loaded_state heap state number a (with_entries (record (call_over seat) { looks = looks }) [])) book book.begun []
-  keeps_rule_by_quiet_end = keeps_rule_by_ending_load heap state book number a seat.registers looks [] [] rest silent (λ machine.
-      let new : Seat = went seat seat.registers 0 0 0 no_spot 0 points.Idle looks [] in
-      keeps_rule_by_silent_load heap state book number rule here a seat.registers 0 0 0 no_spot 0 points.Idle looks [] machine makes tt
+  keeps_rule_by_quiet_end = keeps_rule_by_ending_load heap state book number a seat.registers seat.seen looks [] [] rest silent (λ machine.
+      let new : Seat = went seat seat.registers seat.seen 0 0 0 no_spot 0 points.Idle looks [] in
+      keeps_rule_by_silent_load heap state book number rule here a seat.registers seat.seen 0 0 0 no_spot 0 points.Idle looks [] machine makes tt (sym (stamps_are_own seat seat.point unnamed))
       (λ r unawaited. stands.names.registers r (free r))
       record { awaited = []; own = append-nil new.mine ∙ append-nil seat.mine ∙ told; awaits = refl }
       tt tt
       (began_without_entry book.history number (book.begun number) seat.point points.Idle busy stands.told.began)
-      (seat_in_cycle_after_load heap state book number rule here a seat.registers 0 0 0 no_spot 0 points.Idle looks [] machine tt)
+      (seat_in_cycle_after_load heap state book number rule here a seat.registers seat.seen 0 0 0 no_spot 0 points.Idle looks [] machine tt)
       (λ marks. roots_hold_off_way (IsReachedNow heap state book) seat new refl tt))
 
   -- the call goes on at another point of a collect
@@ -41,11 +45,11 @@ module _ (heap : Heap) (state : State) (book : Book) (number : ℕ) (rule : Rule
       → Keeps heap state (loaded_state heap state number a (with_entries (record seat { point = points.Collecting point; looks = looks }) [])) book book.begun []
   keeps_rule_by_quiet_move point machine =
       let next = points.Collecting point in
-      let new : Seat = went seat seat.registers seat.reached seat.links seat.part seat.address seat.loaded next looks [] in
-      keeps_rule_by_silent_load heap state book number rule here a seat.registers seat.reached seat.links seat.part seat.address seat.loaded next looks [] machine makes tt
+      let new : Seat = went seat seat.registers seat.seen seat.reached seat.links seat.part seat.address seat.loaded next looks [] in
+      keeps_rule_by_silent_load heap state book number rule here a seat.registers seat.seen seat.reached seat.links seat.part seat.address seat.loaded next looks [] machine makes tt (sym (stamps_are_own seat seat.point unnamed))
       (λ r unawaited. stands.names.registers r (free r))
       record { awaited = []; own = append-nil new.mine ∙ append-nil seat.mine ∙ told; awaits = refl }
       tt tt
       (began_without_entry book.history number (book.begun number) seat.point next busy stands.told.began)
-      (seat_in_cycle_after_load heap state book number rule here a seat.registers seat.reached seat.links seat.part seat.address seat.loaded next looks [] machine tt)
+      (seat_in_cycle_after_load heap state book number rule here a seat.registers seat.seen seat.reached seat.links seat.part seat.address seat.loaded next looks [] machine tt)
       (λ marks. roots_hold_off_way (IsReachedNow heap state book) seat new refl tt)

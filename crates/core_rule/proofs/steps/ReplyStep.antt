@@ -3,7 +3,7 @@ use Rattle.std.proofs.Common.{subst, ◌≡◌, ◌≢◌, ℕ, ◌<◌, false, 
 use Rattle.std.proofs.lemmas.List.{get_or-set_same, length-set}
 use Rattle.core_rule.proofs.Terms.{Command, Entry, Heap, Reply, IsLegal, graph_of, is_of, after_reply, made_by, words_by, graph_seat, register_value, phase, last_answer, has_left}
 use Rattle.core_rule.proofs.Terms.{taken_of, spent_of, Graph, opening, Fits, IsAtRest, State, seat_at, register_in, Seat, absent_seat, IsMachine, Book, HeapInCycle, SeatInCycle}
-use Rattle.core_rule.proofs.Terms.{AreMade, Objects, node_at, Rule, OwnStands, NamesStand, ToldStands, dead_bit}
+use Rattle.core_rule.proofs.Terms.{SeenStands, AreMade, Objects, node_at, Rule, OwnStands, NamesStand, ToldStands, dead_bit}
 use Rattle.heap_model.specs.declared.entry.Entry.TheVariants as entries
 use Rattle.heap_model.proofs.Histories.{graph_after-more}
 use Rattle.core_machine.specs.declared.point.Point.TheVariants as points
@@ -58,6 +58,7 @@ pub record SeatReplies (book : Book) (g : Graph) (number : ℕ) (old now : Seat)
   pub made : now.made ≡ length (graph_seat g number).objects
   pub sets : now.sets ≡ (graph_seat g number).sets
   pub left : (graph_seat g number).left ≡ now.left
+  pub seen : SeenStands g number now.seen
   pub registers : (i : ℕ) → regs.HoldsValue book.made book.owner book.fragments (register_in now.registers i) (register_value g number i)
 
 module _ (heap : Heap) (state : State) (book : Book) (number : ℕ) (words : List ℕ) (now : Seat) (command : Command) (reply : Reply)
@@ -156,6 +157,7 @@ module _ (heap : Heap) (state : State) (book : Book) (number : ℕ) (words : Lis
         counts = record {
           numbered = replies.made;
           stamped = replies.sets;
+          seen = rw replies.idle replies.seen;
           leaves = replies.left;
           unborn = bare_unborn_holds_reserve seat.reserve now.reserve now.hand now.body (spent_of number later.history) (taken_of number later.history) replies.reserve idle.empty_hand idle.no_body
               (omega (arith, own, taken_stays_by_said book.history number command reply none, spent_stays_by_said book.history number command reply none));

@@ -17,6 +17,7 @@ use Rattle.core_rule.proofs.colours.OneBit.{bits_after_mark}
 use Rattle.core_rule.proofs.words.Addresses.{at-put_apart}
 use Rattle.core_rule.proofs.marking.Marks.{RootsGoOn}
 use Rattle.core_rule.proofs.marking.SeatShades.{marks_go_on_after_shade}
+use Rattle.core_rule.proofs.graph.SeenStamps.{IsUnnamed, stamps_stay, busy_is_unnamed}
 use Rattle.core_rule.proofs.steps.Assemble.{Keeps, keeps_rule_after_step, space_stands_after_step, in_flight_has_not_left}
 use Rattle.core_rule.proofs.entries.InFlight.{began_without_entry}
 use Rattle.core_rule.proofs.ways.KeptWords.{owned_within_heap}
@@ -71,13 +72,13 @@ module _ (heap : Heap) (state : State) (book : Book) (number : ℕ) (rule : Rule
       → Registers (graph_of heap book.history) book.made book.owner book.fragments number (seat_at state number).registers point (target_of (seat_at state number).command)
       → OwnList (graph_of heap book.history) book.history book.made book.owner book.fragments number (shading (seat_at state number) shaded point)
       → WayStands (node_at (graph_of heap book.history) book.made) book.made book.owner book.fragments (shading (seat_at state number) shaded point) point
-      → MakesNone (seat_at state number).point → MakesNone point → AddressAt heap state.words book (shading (seat_at state number) shaded point) point
+      → MakesNone (seat_at state number).point → MakesNone point → IsUnnamed point → AddressAt heap state.words book (shading (seat_at state number) shaded point) point
       → ¬ IsAnswered (seat_at state number).point
       → SeatInCycle heap words_shaded (phase book.history) (last_answer number book.history) (has_left number book.history) book.owner (with_mark book.colour f) number (shading (seat_at state number) shaded point)
       → (IsInMarking state.collector → (seat_at state number).answered ≡ state.collector.phase → IsReached heap state.words book.owner book.colour f)
       → RootsGoOn heap state book rule number here (shading (seat_at state number) shaded point) → (seat_at state number).answered % cycle_phases ≢ clearing_phase
       → IsNamed heap state book f → Keeps heap state (record state { words = words_shaded; seats = slice_set state.seats number (shading (seat_at state number) shaded point) }) book book.begun []
-  keeps_rule_by_shade shaded point runs machine held list way before after address busy cycle comes roots early named =
+  keeps_rule_by_shade shaded point runs machine held list way before after unnamed address busy cycle comes roots early named =
       let seat : Seat = seat_at state number in
       let new : Seat = shading seat shaded point in
       let stands = rule.seats_stand number here in
@@ -99,7 +100,7 @@ module _ (heap : Heap) (state : State) (book : Book) (number : ℕ) (rule : Rule
         };
         told = record {
           list = list;
-          counts = counts_agree_without_entry (graph_of heap book.history) book.history number seat new refl refl refl refl stands.told.counts;
+          counts = counts_agree_without_entry (graph_of heap book.history) book.history number seat new refl refl (stamps_stay seat new seat.point point refl refl (busy_is_unnamed seat.point busy) unnamed refl) refl refl stands.told.counts;
           began = began_without_entry book.history number (book.begun number) seat.point point busy stands.told.began;
           gathers = stands.told.gathers;
           used = used_stands_where_none_made heap book.history number new point after;

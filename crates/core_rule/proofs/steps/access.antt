@@ -12,8 +12,10 @@ pub mod OldStep
 pub mod ShadeOldStep
 pub mod ShadeNewStep
 pub mod SwapStep
+pub mod ShadeSideStep
+pub mod CompareStep
 use Rattle.core_machine.specs.declared.point.Access.{Access}
-use Rattle.core_rule.proofs.Terms.{LoadingMeta, Walking, Indexing, Getting, LoadingOld, ShadingOld, ShadingNew, Swapping}
+use Rattle.core_rule.proofs.Terms.{LoadingMeta, Walking, Indexing, Getting, LoadingOld, ShadingOld, ShadingNew, Swapping, ShadingSide, Replacing}
 use Rattle.core_machine.specs.declared.point.Access.TheVariants.{LoadingSpot, Naming}
 use Rattle.core_machine.specs.declared.point.Point.TheVariants as points
 use Rattle.core_rule.proofs.steps.StepKinds.{StepKind}
@@ -30,3 +32,5 @@ step_kind_of_access LoadingOld = OldStep.step_kind_of_loading_old
 step_kind_of_access ShadingOld = ShadeOldStep.step_kind_of_shading_old
 step_kind_of_access ShadingNew = ShadeNewStep.step_kind_of_shading_new
 step_kind_of_access Swapping = SwapStep.step_kind_of_swapping
+step_kind_of_access (ShadingSide side) = ShadeSideStep.step_kind_of_shading_side side
+step_kind_of_access Replacing = CompareStep.step_kind_of_replacing

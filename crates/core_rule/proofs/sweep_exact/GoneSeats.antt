@@ -41,6 +41,7 @@ gone_said g number other (commands.New d fields) (replies.Made id) present gone 
 gone_said g number other (commands.Array d cells) (replies.Made id) present gone = gone_with g number other _ gone (λ its. its)
 gone_said g number other (commands.Get d r i) (replies.Got value stamp) present gone = gone_with g number other _ gone (λ its. its)
 gone_said g number other (commands.Set r i v) (replies.Was stamp) present gone = gone_write (count_set g other) number (register_value g other r) i _ (gone_with g number other _ gone (λ its. its))
+gone_said g number other (commands.Cas r i a v) (replies.Was stamp) present gone = gone_write (count_set g other) number (register_value g other r) i _ (gone_with g number other _ gone (λ its. its))
 gone_said g number other (commands.Num d n) reply present gone = gone_with g number other _ gone (λ its. its)
 gone_said g number other (commands.Nil d) reply present gone = gone_with g number other _ gone (λ its. its)
 gone_said g number other (commands.Copy d r) reply present gone = gone_with g number other _ gone (λ its. its)

@@ -1,7 +1,7 @@
 -- What a call has reached is of the object that its register holds.
 use Rattle.std.specs.Prelude.{if◌then◌else◌, option_map, unwrap_or}
 use Rattle.std.proofs.Common.{◌≡◌, ℕ, ◌%◌, ◌<◌, Option, Some, refl, sym, ap, ◌∙◌, subst, arith}
-use Rattle.core_rule.proofs.Terms.{Heap, Node, LoadingMeta, Walking, Indexing, Getting, LoadingOld, ShadingOld, ShadingNew, Swapping, Point, Word, State, seat_at, found_by, Move}
+use Rattle.core_rule.proofs.Terms.{ShadingSide, Replacing, Heap, Node, LoadingMeta, Walking, Indexing, Getting, LoadingOld, ShadingOld, ShadingNew, Swapping, Point, Word, State, seat_at, found_by, Move}
 use Rattle.core_rule.proofs.Terms.{move_at, due_step, part_of, field_of, FitsWay, Seat, id_of, at, Book, fragment_at, id_at, object_number, Awaits, IsAwaitingName, WhileAccess}
 use Rattle.core_rule.proofs.Terms.{node_at, IsAwaited, Rule, Kept, AccessStands, WayStands, Finds, Locates, SetsOut, OnWay}
 use Rattle.heap_model.specs.declared.id.Value.TheVariants as values
@@ -92,6 +92,8 @@ module _ (heap : Heap) (state : State) (book : Book) (number : ℕ) (rule : Rule
   reaches_in ShadingOld is fits way = at_field ShadingOld is (λ d r e. e) fits.0.2.arrived way.0
   reaches_in ShadingNew is fits way = at_field ShadingNew is (λ d r e. e) fits.0.2.arrived way.0
   reaches_in Swapping is fits way = at_field Swapping is (λ d r e. e) fits.0.2.arrived way.0
+  reaches_in (ShadingSide side) is fits way = at_field (ShadingSide side) is (λ d r e. e) fits.0.2.arrived way
+  reaches_in Replacing is fits way = at_field Replacing is (λ d r e. e) fits.2.arrived way
 
   reaches_at : (P : Access → Type 0) (point : Point) → seat.point ≡ point → FitsWay seat point → WayStands nodes book.made book.owner book.fragments seat point
       → ((reaching : Access) → seat.point ≡ points.Access reaching → ReachesOwn heap book number seat reaching → P reaching) → WhileAccess P point

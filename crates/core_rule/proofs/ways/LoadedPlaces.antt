@@ -1,7 +1,7 @@
 -- What a call has in hand once it has loaded the place of a spine, from there on until it is over.
 use Rattle.std.proofs.Common.{◌≡◌, ℕ, false, List, Some, sym, ap, ◌∙◌}
 use Rattle.heap_words.specs.declared.spot.Spot.{Spot}
-use Rattle.core_rule.proofs.Terms.{Heap, Id, Node, Indexing, Getting, LoadingOld, ShadingOld, ShadingNew, Swapping, Point, register_head, Seat, fragment_at, Owner, Kept}
+use Rattle.core_rule.proofs.Terms.{ShadingSide, Replacing, Heap, Id, Node, Indexing, Getting, LoadingOld, ShadingOld, ShadingNew, Swapping, Point, register_head, Seat, fragment_at, Owner, Kept}
 use Rattle.core_rule.proofs.Terms.{SpineOwner, CallsObject, HasLoaded, ReadsSpine, WhileLoaded, OnWay, WayStands}
 use Rattle.core_machine.specs.declared.point.Point.TheVariants as points
 
@@ -13,6 +13,8 @@ while_loaded_goes_on (points.Access LoadingOld) goes was = goes tt was
 while_loaded_goes_on (points.Access ShadingOld) goes was = goes tt was
 while_loaded_goes_on (points.Access ShadingNew) goes was = goes tt was
 while_loaded_goes_on (points.Access Swapping) goes was = goes tt was
+while_loaded_goes_on (points.Access (ShadingSide side)) goes was = goes tt was
+while_loaded_goes_on (points.Access Replacing) goes was = goes tt was
 while_loaded_goes_on _ goes was = tt
 
 -- and it is so there
@@ -23,6 +25,8 @@ while_loaded_holds (points.Access LoadingOld) has was = was
 while_loaded_holds (points.Access ShadingOld) has was = was
 while_loaded_holds (points.Access ShadingNew) has was = was
 while_loaded_holds (points.Access Swapping) has was = was
+while_loaded_holds (points.Access (ShadingSide side)) has was = was
+while_loaded_holds (points.Access Replacing) has was = was
 while_loaded_holds _ has was = absurd has
 
 -- the call is on its way then, at some row of the object
@@ -39,6 +43,8 @@ loaded_is_on_way nodes made owner fragments seat (points.Access LoadingOld) has 
 loaded_is_on_way nodes made owner fragments seat (points.Access ShadingOld) has way = record { index = way.0.index; row = way.0.row; way = way.0.way }
 loaded_is_on_way nodes made owner fragments seat (points.Access ShadingNew) has way = record { index = way.0.index; row = way.0.row; way = way.0.way }
 loaded_is_on_way nodes made owner fragments seat (points.Access Swapping) has way = record { index = way.0.index; row = way.0.row; way = way.0.way }
+loaded_is_on_way nodes made owner fragments seat (points.Access (ShadingSide side)) has way = record { index = way.index; row = way.row; way = way.way }
+loaded_is_on_way nodes made owner fragments seat (points.Access Replacing) has way = record { index = way.index; row = way.row; way = way.way }
 loaded_is_on_way nodes made owner fragments seat _ has way = absurd has
 
 -- the object in the call's register is the one on whose way it is

@@ -3,29 +3,28 @@ use Rattle.std.proofs.Common.{◌≡◌, ℕ, ◌+◌, ◌-◌, ◌/◌, ◌<◌
 use Rattle.std.proofs.lemmas.Bool.{false≢true, cond_both, eqb-true, eqb-false}
 use Rattle.std.proofs.lemmas.Bool.Decides.{eqb_tells}
 use Rattle.heap_words.specs.declared.spot.Spot.{Spot}
-use Rattle.core_rule.proofs.Terms.{Entry, Heap, Id, Graph, Node, spine_words_of, Word, Walking, Getting, Indexing, Swapping, LoadingOld, at, spine_place, head_of, link_of}
+use Rattle.core_rule.proofs.Terms.{Entry, Heap, Id, Graph, Node, spine_words_of, Word, Walking, Getting, Indexing, Swapping, LoadingOld, ShadingSide, Replacing, register_head, side_register_of, at, spine_place, head_of, link_of}
 use Rattle.core_rule.proofs.Terms.{payload_in, spine_word, has_barrier_of, way_point_of, after_link, after_walk, at_access, field_of, Seat, fragment_at, Bits, AreMade, Objects}
 use Rattle.core_rule.proofs.Terms.{node_at, Owner, SpineOwner, AddressStands, Finds, Locates, LoadedKept, OldKept, AccessStands}
 use Rattle.heap_model.specs.Heap.{IsHeap}
 use Rattle.core_machine.specs.declared.point.Point.TheVariants as points
 use Rattle.core_machine.specs.declared.point.Access.{Access}
+use Rattle.core_machine.specs.declared.point.Side.TheVariants.{Expected, New}
 use Rattle.core_machine.proofs.seat_lemmas.FieldPoints.{field_point_cases}
 use Rattle.core_rule.proofs.ways.KeptWords.{link_tells_next_row, spine_word_tells_payload}
 use Rattle.core_rule.proofs.ways.Rows.{cell_word_within_spine}
-use Rattle.core_rule.proofs.cycle.Unwatched.{IsUnwatched}
 use Rattle.core_rule.proofs.ways.LoadedPlaces.{calls_object_of_first}
 
--- so the way leads to one of four points
+-- so the way leads to a link, or to one of the points at a field
 pub way_point_cases : (P : Access → Type 0) (seat : Seat) → P Walking → P Getting → (has_barrier_of seat ≡ true → P LoadingOld) → (has_barrier_of seat ≡ false → P Swapping)
+    → (has_barrier_of seat ≡ true → IsSome (register_head (side_register_of seat Expected)) → P (ShadingSide Expected))
+    → (has_barrier_of seat ≡ true → register_head (side_register_of seat Expected) ≡ None → IsSome (register_head (side_register_of seat New)) → P (ShadingSide New))
+    → ((has_barrier_of seat ≡ true → (register_head (side_register_of seat Expected) ≡ None) × (register_head (side_register_of seat New) ≡ None)) → P Replacing)
     → P (way_point_of seat)
-way_point_cases P seat walks gets loads swaps = elim (eqb_tells seat.links 0) as (λ _. P (way_point_of seat)) [
-  | inl e ↦ rw e.0 (field_point_cases P seat seat.command gets loads swaps)
+way_point_cases P seat walks gets loads swaps expects offers compares = elim (eqb_tells seat.links 0) as (λ _. P (way_point_of seat)) [
+  | inl e ↦ rw e.0 (field_point_cases P seat seat.command gets loads swaps expects offers compares)
   | inr e ↦ rw e.0 walks
 ]
-
--- none of which is watched
-pub way_point_is_unwatched : (seat : Seat) → IsUnwatched (has_barrier_of seat) (way_point_of seat)
-way_point_is_unwatched seat = way_point_cases (IsUnwatched (has_barrier_of seat)) seat tt tt (λ on. tt) (λ off. off)
 
 -- what holds of a seat that stands at its field's fragment, and of one that follows a link, holds of the seat that goes on
 pub after_walk_cases : (P : Seat → Type 0) (seat : Seat) (found : ℕ) → (seat.links ≡ 0 → P (at_access seat (way_point_of seat)))
@@ -50,6 +49,7 @@ module _ (nodes : ℕ → Node) (made : List Id) (owner : ℕ → Owner) (fragme
   pub access_stands_at_next : (seat reached : Seat) → seat.loaded ≡ 0 → Finds nodes made owner fragments seat → AccessStands nodes made owner fragments seat (way_point_of reached)
   access_stands_at_next seat reached unloaded finds =
       way_point_cases (λ point. AccessStands nodes made owner fragments seat point) reached finds finds (λ on. finds) (λ off. (finds, old_kept_where_none made owner fragments seat (ap head_of unloaded)))
+      (λ on some. finds) (λ on none some. finds) (λ none. finds)
 
   -- it is found wherever the call stands
   pub finds_at_point : (seat : Seat) (loaded : ℕ) (point : Access) (mine : List Entry) → Finds nodes made owner fragments seat

@@ -1,7 +1,7 @@
 -- A way goes on as before where its object does.
 use Rattle.std.proofs.Common.{◌≡◌, ℕ, ◌+◌, ◌/◌, ◌%◌, ◌<◌, List, length, sym, ap, ◌∙◌}
 use Rattle.std.specs.Prelude.{if◌then◌else◌}
-use Rattle.core_rule.proofs.Terms.{Command, Id, Node, Point, LoadingMeta, Walking, Indexing, Getting, LoadingOld, ShadingOld, ShadingNew, Swapping, row_of, part_of, field_of, Seat}
+use Rattle.core_rule.proofs.Terms.{ShadingSide, Replacing, Command, Id, Node, Point, LoadingMeta, Walking, Indexing, Getting, LoadingOld, ShadingOld, ShadingNew, Swapping, row_of, part_of, field_of, Seat}
 use Rattle.core_rule.proofs.Terms.{id_at, IsKept, Owner, LoadedKept, OnWay, FieldAhead, Finds, Locates, WayStands}
 use Rattle.core_machine.specs.declared.point.Point.TheVariants as points
 use Rattle.core_machine.specs.declared.point.Access.TheVariants.{LoadingSpot}
@@ -71,4 +71,6 @@ module _ (nodes now_nodes : ℕ → Node) (made now_made : List Id) (owner now_o
   way_stands_still seat (points.Access ShadingOld) way = (finds_stays seat way.0, loaded_stays seat way.1)
   way_stands_still seat (points.Access ShadingNew) way = (finds_stays seat way.0, λ some. loaded_stays seat (way.1 some))
   way_stands_still seat (points.Access Swapping) way = (finds_stays seat way.0, λ some. loaded_stays seat (way.1 some))
+  way_stands_still seat (points.Access (ShadingSide side)) way = finds_stays seat way
+  way_stands_still seat (points.Access Replacing) way = finds_stays seat way
   way_stands_still seat _ way = way

@@ -16,7 +16,7 @@ use Rattle.core_machine.specs.declared.collector.stage.SpineCopy.{SpineCopy}
 use Rattle.core_machine.specs.declared.collector.stage.Stage.{Stage}
 use Rattle.core_machine.specs.declared.collector.stage.Stage.TheVariants as stages
 use Rattle.core_machine.specs.declared.collector.stage.Visit.{Visit}
-use Rattle.core_machine.specs.declared.point.Access.TheVariants.{Indexing, Getting, LoadingOld, ShadingOld, ShadingNew, Swapping}
+use Rattle.core_machine.specs.declared.point.Access.TheVariants.{Indexing, Getting, LoadingOld, ShadingOld, ShadingNew, Swapping, ShadingSide, Replacing}
 use Rattle.core_machine.specs.declared.point.Point.{Point}
 use Rattle.core_machine.specs.declared.point.Point.TheVariants as points
 use Rattle.core_machine.specs.seat.Commands.{object_of}
@@ -43,6 +43,8 @@ HasLoaded (points.Access LoadingOld) = Unit {0}
 HasLoaded (points.Access ShadingOld) = Unit {0}
 HasLoaded (points.Access ShadingNew) = Unit {0}
 HasLoaded (points.Access Swapping) = Unit {0}
+HasLoaded (points.Access (ShadingSide side)) = Unit {0}
+HasLoaded (points.Access Replacing) = Unit {0}
 HasLoaded _ = ⊥
 
 -- what holds where a call has loaded the place of a spine
@@ -53,6 +55,8 @@ WhileLoaded P (points.Access LoadingOld) = P
 WhileLoaded P (points.Access ShadingOld) = P
 WhileLoaded P (points.Access ShadingNew) = P
 WhileLoaded P (points.Access Swapping) = P
+WhileLoaded P (points.Access (ShadingSide side)) = P
+WhileLoaded P (points.Access Replacing) = P
 WhileLoaded P _ = Unit {0}
 
 -- the call's register holds the object that begins with this fragment

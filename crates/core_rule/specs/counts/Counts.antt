@@ -19,6 +19,7 @@ use Rattle.heap_words.specs.Loaded.{head_of, stamp_of}
 use Rattle.core_machine.specs.seat.Seat.{Seat}
 use Rattle.core_machine.specs.machine.Sums.{sum_upto}
 use Rattle.core_rule.specs.Book.{object_head}
+use Rattle.core_rule.specs.graph.Registers.{SeenStands, stamps_at}
 use Rattle.core_rule.specs.objects.Objects.{NamesKept}
 use Rattle.core_rule.specs.owners.Owners.{Owner, taken_bit}
 use Rattle.core_rule.specs.hand.Holding.{fragments_in_hand}
@@ -47,6 +48,8 @@ pub record CountsAgree (g : Graph) (history : List Entry) (number : ℕ) (seat :
   -- it made as many objects, and did as many sets, as the graph has of it
   pub numbered : seat.made ≡ length (graph_seat g number).objects
   pub stamped : seat.sets ≡ (graph_seat g number).sets
+  -- its registers are seen under the graph's stamps
+  pub seen : SeenStands g number (stamps_at seat seat.point)
   -- it has left where it has in the graph
   pub leaves : (graph_seat g number).left ≡ seat.left
   -- what it has is what it took and neither gave back nor made into objects

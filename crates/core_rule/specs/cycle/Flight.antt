@@ -1,4 +1,4 @@
--- What a set and an answer in flight have loaded and shaded.
+-- What a set, a compare and swap and an answer in flight have loaded and shaded.
 use Rattle.std.specs.Prelude.{◌≡◌, ℕ, ◌%◌, ◌<◌, ◌⊎◌, List, length, take, Option, Some, None, IfSome}
 use Rattle.std.specs.List.{filter_map}
 use Rattle.heap_model.specs.declared.heap.Heap.{Heap}
@@ -8,9 +8,12 @@ use Rattle.core_machine.specs.declared.point.Point.TheVariants as points
 use Rattle.core_machine.specs.declared.point.Polling.{Polling}
 use Rattle.core_machine.specs.declared.point.Polling.TheVariants.{Asking, Shading, Answering}
 use Rattle.core_machine.specs.declared.point.Access.{Access}
-use Rattle.core_machine.specs.declared.point.Access.TheVariants.{ShadingOld, ShadingNew, Swapping}
+use Rattle.core_machine.specs.declared.point.Access.TheVariants.{ShadingOld, ShadingNew, Swapping, ShadingSide, Replacing}
+use Rattle.core_machine.specs.declared.point.Side.{Side}
+use Rattle.core_machine.specs.declared.point.Side.TheVariants.{Expected, New}
 use Rattle.core_machine.specs.declared.seat.register.Register.{Register}
 use Rattle.heap_words.specs.Loaded.{head_of}
+use Rattle.core_machine.specs.seat.Access.{side_register_of}
 use Rattle.core_machine.specs.seat.AccessMoves.{new_register_of}
 use Rattle.core_machine.specs.seat.Registers.{register_in, register_head}
 use Rattle.core_machine.specs.seat.Seat.{Seat}
@@ -28,11 +31,17 @@ FieldStands heap words colour seat ShadingNew = DeletionBarrier heap words colou
 FieldStands heap words colour seat Swapping = DeletionBarrier heap words colour seat.reached seat.part None
 FieldStands heap words colour seat _ = Unit {0}
 
--- once shaded a set's old value is marked; at the swap both values are, where the last answer is from barriers to the sweep
+-- the value of a compare and swap is marked, where it is an object
+abbrev pub IsSideMarked : (ℕ → Colour) → Seat → Side → Type 0
+IsSideMarked colour seat side = IfSome (register_head (side_register_of seat side)) (IsMarked colour)
+
+-- once shaded a set's old value is marked, and so is the one that a compare and swap expects; at the swap both values are, where the last answer is from barriers to the sweep
 abbrev pub ShadedStands : (ℕ → Colour) → Seat → Access → Type 0
 ShadedStands colour seat ShadingNew = IfSome (head_of seat.loaded) (IsMarked colour)
 ShadedStands colour seat Swapping = IsBetween barriers sweep seat.answered
     → IfSome (head_of seat.loaded) (IsMarked colour) × IfSome (register_head (new_register_of seat)) (IsMarked colour)
+ShadedStands colour seat (ShadingSide New) = IsSideMarked colour seat Expected
+ShadedStands colour seat Replacing = IsBetween barriers sweep seat.answered → IsSideMarked colour seat Expected × IsSideMarked colour seat New
 ShadedStands colour seat _ = Unit {0}
 
 -- what holds at the points of access
@@ -59,7 +68,7 @@ abbrev pub WhilePolling : (Polling → Type 0) → Point → Type 0
 WhilePolling P (points.Polling point) = P point
 WhilePolling P _ = Unit {0}
 
--- of a set in flight no value is lost unmarked, and what a set or an answer in flight has shaded is marked
+-- of a set in flight no value is lost unmarked, and what a set, a compare and swap or an answer in flight has shaded is marked
 pub record Flight (heap : Heap) (words : List ℕ) (colour : ℕ → Colour) (phase : ℕ) (seat : Seat) : Type 0 where
   -- no value is lost once the seat has answered the cycle's phase of black births
   pub set : IsBetween black_births sweep phase → IsBetween black_births sweep seat.answered → WhileAccess (FieldStands heap words colour seat) seat.point

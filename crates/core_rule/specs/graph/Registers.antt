@@ -1,15 +1,19 @@
--- A seat's registers hold what the graph says.
-use Rattle.std.specs.Prelude.{◌≡◌, ℕ, ◌<◌, ◌^◌, List, slice_index_or}
+-- A seat's registers hold what the graph says, and were seen under its stamps.
+use Rattle.std.specs.Prelude.{◌≡◌, ℕ, ◌<◌, ◌^◌, List, map, slice_index_or, slice_set, All}
+use Rattle.heap_words.specs.Loaded.{stamp_of}
 use Rattle.heap_model.specs.declared.id.Id.{Id}
 use Rattle.heap_model.specs.declared.id.Value.{Value}
 use Rattle.heap_model.specs.declared.id.Value.TheVariants as values
-use Rattle.heap_model.specs.graph.Objects.{register_value}
+use Rattle.heap_model.specs.declared.graph.cell.Cell.{Cell}
+use Rattle.heap_model.specs.graph.Objects.{graph_seat, register_value}
 use Rattle.heap_model.specs.graph.Graph.{Graph}
 use Rattle.core_machine.specs.declared.point.Point.{Point}
 use Rattle.core_machine.specs.declared.point.Point.TheVariants as points
 use Rattle.core_machine.specs.declared.point.Access.TheVariants.{Naming}
 use Rattle.core_machine.specs.declared.seat.register.Register.{Register}
 use Rattle.core_machine.specs.declared.seat.register.Register.TheVariants as registers
+use Rattle.core_machine.specs.seat.Commands.{target_of}
+use Rattle.core_machine.specs.seat.Seat.{Seat}
 use Rattle.core_rule.specs.owners.Owners.{Owner}
 use Rattle.core_rule.specs.Book.{object_head}
 use Rattle.core_rule.specs.objects.Objects.{NamesKept}
@@ -30,3 +34,17 @@ IsAwaited _ d r = ⊥
 abbrev pub Registers : Graph → List Id → (ℕ → Owner) → (ℕ → List ℕ) → ℕ → List Register → Point → ℕ → Type 0
 Registers g made owner fragments number held point d =
     (r : ℕ) → ¬ IsAwaited point d r → HoldsValue made owner fragments (slice_index_or held r registers.Nil) (register_value g number r)
+
+-- under which stamps the seat's registers are seen: where a get awaits an object's name, its register under that of the loaded field
+abbrev pub stamps_at : Seat → Point → List ℕ
+stamps_at seat (points.Access Naming) = slice_set seat.seen (target_of seat.command) (stamp_of seat.loaded)
+stamps_at seat _ = seat.seen
+
+-- under which stamps the graph has the seat's registers
+abbrev pub graph_stamps : Graph → ℕ → List ℕ
+graph_stamps g number = map (λ (cell : Cell). cell.stamp) (graph_seat g number).registers
+
+-- these are the graph's stamps, and each has 32 bits
+pub record SeenStands (g : Graph) (number : ℕ) (seen : List ℕ) : Type 0 where
+  pub stamps : seen ≡ graph_stamps g number
+  pub small : All (λ stamp. stamp < 2 ^ 32) seen

@@ -7,7 +7,7 @@ use Rattle.heap_model.specs.declared.id.Value.TheVariants as values
 use Rattle.heap_model.specs.graph.Graph.{Node}
 use Rattle.heap_model.specs.graph.Objects.{register_value}
 use Rattle.core_machine.specs.declared.point.Access.{Access}
-use Rattle.core_machine.specs.declared.point.Access.TheVariants.{LoadingMeta, Walking, LoadingSpot, Indexing, Getting, Naming, LoadingOld, ShadingOld, ShadingNew, Swapping}
+use Rattle.core_machine.specs.declared.point.Access.TheVariants.{LoadingMeta, Walking, LoadingSpot, Indexing, Getting, Naming, LoadingOld, ShadingOld, ShadingNew, Swapping, ShadingSide, Replacing}
 use Rattle.core_machine.specs.declared.seat.register.Register.TheVariants.{Object}
 use Rattle.core_machine.specs.machine.Machine.{State, seat_at, found_by}
 use Rattle.core_machine.specs.Moves.{due_step}
@@ -84,6 +84,8 @@ ReachesOwn heap book number seat LoadingOld = IsFieldPlace heap book number seat
 ReachesOwn heap book number seat ShadingOld = IsFieldPlace heap book number seat
 ReachesOwn heap book number seat ShadingNew = IsFieldPlace heap book number seat
 ReachesOwn heap book number seat Swapping = IsFieldPlace heap book number seat
+ReachesOwn heap book number seat (ShadingSide side) = IsFieldPlace heap book number seat
+ReachesOwn heap book number seat Replacing = IsFieldPlace heap book number seat
 
 -- in any state for which a book stands each call on an object has reached its own at its point
 unfoldable pub EachReachesOwn : Type 0

@@ -6,7 +6,7 @@ use Rattle.heap_model.specs.graph.Graph.{Node}
 use Rattle.core_machine.specs.declared.point.Point.{Point}
 use Rattle.core_machine.specs.declared.point.Point.TheVariants as points
 use Rattle.core_machine.specs.declared.point.Access.{Access}
-use Rattle.core_machine.specs.declared.point.Access.TheVariants.{LoadingMeta, Walking, LoadingSpot, Indexing, Getting, Naming, LoadingOld, ShadingOld, ShadingNew, Swapping}
+use Rattle.core_machine.specs.declared.point.Access.TheVariants.{LoadingMeta, Walking, LoadingSpot, Indexing, Getting, Naming, LoadingOld, ShadingOld, ShadingNew, Swapping, ShadingSide, Replacing}
 use Rattle.core_machine.specs.declared.seat.register.Register.TheVariants.{Object}
 use Rattle.core_machine.specs.seat.Commands.{object_of, field_of}
 use Rattle.heap_words.specs.Loaded.{head_of}
@@ -82,6 +82,8 @@ AccessStands nodes made owner fragments seat LoadingOld = Finds nodes made owner
 AccessStands nodes made owner fragments seat ShadingOld = Finds nodes made owner fragments seat × LoadedKept made owner fragments seat
 AccessStands nodes made owner fragments seat ShadingNew = Finds nodes made owner fragments seat × OldKept made owner fragments seat
 AccessStands nodes made owner fragments seat Swapping = Finds nodes made owner fragments seat × OldKept made owner fragments seat
+AccessStands nodes made owner fragments seat (ShadingSide side) = Finds nodes made owner fragments seat
+AccessStands nodes made owner fragments seat Replacing = Finds nodes made owner fragments seat
 
 -- what is true of a seat's way at its point
 abbrev pub WayStands : (ℕ → Node) → List Id → (ℕ → Owner) → (ℕ → List ℕ) → Seat → Point → Type 0

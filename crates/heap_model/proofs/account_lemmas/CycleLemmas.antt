@@ -8,7 +8,7 @@ use Rattle.heap_model.specs.declared.id.Id.{Id}
 use Rattle.heap_model.specs.declared.entry.Entry.{Entry}
 use Rattle.heap_model.specs.graph.Graph.{Graph}
 use Rattle.heap_model.specs.graph.Reach.{IsBefore, Reaches, IsReach, AreReached, AreReachedAmong}
-use Rattle.heap_model.specs.graph.Sizes.{fragments_at, fragments_of_all, spine_words_at, spine_words_of_all}
+use Rattle.heap_model.specs.graph.Sizes.{fragments_at, fragments_of_all, spine_words_at, spine_words_of_all, HasReach}
 use Rattle.heap_model.specs.account.Space.{total, words_granted}
 use Rattle.heap_model.specs.account.Effects.{effect_of}
 use Rattle.heap_model.specs.account.Windows.{begins_cycle, up_to_cycle, since_cycle}
@@ -71,6 +71,18 @@ sum_of_both : (f : Id → ℕ) (g h : Graph) (reached both ordered : List Id) �
 sum_of_both f g h reached both ordered are among reach =
     let put = both_in_order g h reached both are among in
     ap (sum_by f) (same_both g h ordered put.0 reach put.2) ∙ sum_by-IsPermutation f both put.0 put.1
+
+-- what was reached at the begin has as many fragments as the account keeps
+pub has_reach_by_books : (books : Books) (history : List Entry) → Tells books history → 1 ≤ books.all.phases → HasReach (graph_of books.heap (up_to_cycle history)) books.cycle.frags
+has_reach_by_books books history t some =
+    let told : TellsCycle books.heap books.cycle history = t.cycle some in
+    let g = graph_of books.heap (up_to_cycle history) in
+    let put = reach_in_order g books.cycle.reached.items told.reached in
+    record {
+      ids = put.0;
+      reached = put.2;
+      counted = told.frags ∙ sym (sum_of_reach (fragments_at g) g books.cycle.reached.items put.0 told.reached put.2);
+    }
 
 -- so little is in use and kept as by what the account keeps
 pub within_bounds_by_books : (books : Books) (history : List Entry) (kept : ℕ) → Tells books history → 1 ≤ books.all.phases

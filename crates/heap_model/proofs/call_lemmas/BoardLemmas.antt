@@ -53,6 +53,7 @@ board_said g number other (commands.New d fields) (replies.Made id) in_range has
 board_said g number other (commands.Array d cells) (replies.Made id) in_range has = board_with g number other _ has (board_put (graph_seat g other) d _ in_range.0)
 board_said g number other (commands.Get d r i) (replies.Got value stamp) in_range has = board_with g number other _ has (board_put (graph_seat g other) d _ in_range.0)
 board_said g number other (commands.Set r i v) (replies.Was stamp) in_range has = board_write (count_set g other) number (register_value g other r) i _ (board_with g number other _ has (λ its. its))
+board_said g number other (commands.Cas r i a v) (replies.Was stamp) in_range has = board_write (count_set g other) number (register_value g other r) i _ (board_with g number other _ has (λ its. its))
 board_said g number other (commands.Num d n) reply in_range has = board_with g number other _ has (board_put (graph_seat g other) d _ in_range.0)
 board_said g number other (commands.Nil d) reply in_range has = board_with g number other _ has (board_put (graph_seat g other) d _ in_range)
 board_said g number other (commands.Copy d r) reply in_range has = board_with g number other _ has (board_put (graph_seat g other) d _ in_range.0)

@@ -13,7 +13,7 @@ use Rattle.heap_model.specs.declared.id.Value.{Value}
 use Rattle.heap_model.specs.declared.id.Value.TheVariants.{Nil, Number, Object}
 use Rattle.heap_model.specs.declared.reply.Reply.{Reply}
 use Rattle.heap_model.specs.declared.reply.Reply.TheVariants as replies
-use Rattle.heap_model.specs.graph.Changes.{add, count_set, with_register, with_object_cell, with_graph_seat, write}
+use Rattle.heap_model.specs.graph.Changes.{add, count_set, set_cell, with_register, with_object_cell, with_graph_seat, write}
 use Rattle.heap_model.specs.graph.Growth.{after_entry, after_reply, graph_after}
 use Rattle.heap_model.specs.Needs.{array_fragments, record_fragments}
 use Rattle.heap_model.specs.graph.Objects.{absent_graph_seat, graph_seat, register_value}
@@ -114,13 +114,17 @@ goes_on_then stays makes sets old now new goes same = record {
   set_more = omega (arith, same.sets_same, goes.set_more);
 }
 
+goes_on_set : (stays : Type 0) (makes : ℕ) (g : Graph) (number r i v : ℕ) → GoesOn stays makes 1 (graph_seat g number) (graph_seat (set_cell g number r i v) number)
+goes_on_set stays makes g number r i v =
+    goes_on_then _ _ _ (graph_seat g number) (graph_seat (count_set g number) number) _ (goes_on_with _ _ _ g number _ record { present = λ there. refl; made = omega arith; set_more = omega arith })
+    (same_counts_write (count_set g number) number (register_value g number r) i _)
+
 goes_on_said : (g : Graph) (number : ℕ) (command : Command) (reply : Reply) → GoesOn (command ≢ commands.Leave) (most_made command) (most_stamped command) (graph_seat g number) (graph_seat (after_reply g number command reply) number)
 goes_on_said g number (commands.New d fields) (replies.Made id) = goes_on_add _ _ g number d (fresh false fields)
 goes_on_said g number (commands.Array d cells) (replies.Made id) = goes_on_add _ _ g number d (fresh true cells)
 goes_on_said g number (commands.Get d r i) (replies.Got value stamp) = goes_on_put _ _ _ g number d _
-goes_on_said g number (commands.Set r i v) (replies.Was stamp) =
-    goes_on_then _ _ _ (graph_seat g number) (graph_seat (count_set g number) number) _ (goes_on_with _ _ _ g number _ record { present = λ there. refl; made = omega arith; set_more = omega arith })
-    (same_counts_write (count_set g number) number (register_value g number r) i _)
+goes_on_said g number (commands.Set r i v) (replies.Was stamp) = goes_on_set _ _ g number r i v
+goes_on_said g number (commands.Cas r i a v) (replies.Was stamp) = goes_on_set _ _ g number r i v
 goes_on_said g number (commands.Num d n) reply = goes_on_put _ _ _ g number d _
 goes_on_said g number (commands.Nil d) reply = goes_on_put _ _ _ g number d _
 goes_on_said g number (commands.Copy d r) reply = goes_on_put _ _ _ g number d _
@@ -135,6 +139,7 @@ call_makes_one_at_most _ = omega arith
 
 pub call_stamps_once_at_most : (command : Command) → most_stamped command ≤ 1
 call_stamps_once_at_most (commands.Set r i v) = omega arith
+call_stamps_once_at_most (commands.Cas r i a v) = omega arith
 call_stamps_once_at_most _ = omega arith
 
 pub each_call_counts : EachCallCounts
@@ -156,12 +161,16 @@ as_before_then old now new first then_ = record {
   sets_same = then_.sets_same ∙ first.sets_same;
 }
 
+spared_set : (g : Graph) (number other r i v : ℕ) → other ≢ number → CountsAsBefore (graph_seat g other) (graph_seat (set_cell g number r i v) other)
+spared_set g number other r i v apart =
+    as_before_then (graph_seat g other) (graph_seat (count_set g number) other) _ (spared g number other _ apart) (same_counts_write (count_set g number) other (register_value g number r) i _)
+
 spared_said : (g : Graph) (number other : ℕ) (command : Command) (reply : Reply) → other ≢ number → CountsAsBefore (graph_seat g other) (graph_seat (after_reply g number command reply) other)
 spared_said g number other (commands.New d fields) (replies.Made id) apart = spared g number other _ apart
 spared_said g number other (commands.Array d cells) (replies.Made id) apart = spared g number other _ apart
 spared_said g number other (commands.Get d r i) (replies.Got value stamp) apart = spared g number other _ apart
-spared_said g number other (commands.Set r i v) (replies.Was stamp) apart =
-    as_before_then (graph_seat g other) (graph_seat (count_set g number) other) _ (spared g number other _ apart) (same_counts_write (count_set g number) other (register_value g number r) i _)
+spared_said g number other (commands.Set r i v) (replies.Was stamp) apart = spared_set g number other r i v apart
+spared_said g number other (commands.Cas r i a v) (replies.Was stamp) apart = spared_set g number other r i v apart
 spared_said g number other (commands.Num d n) reply apart = spared g number other _ apart
 spared_said g number other (commands.Nil d) reply apart = spared g number other _ apart
 spared_said g number other (commands.Copy d r) reply apart = spared g number other _ apart

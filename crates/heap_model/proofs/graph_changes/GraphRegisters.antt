@@ -53,6 +53,7 @@ sixteen_reply g s (commands.New d fields) (replies.Made id) is = sixteen_add g s
 sixteen_reply g s (commands.Array d cells) (replies.Made id) is = sixteen_add g s d _ is
 sixteen_reply g s (commands.Get d r i) (replies.Got value stamp) is = sixteen_put g s d _ is
 sixteen_reply g s (commands.Set r i v) (replies.Was stamp) is = sixteen_write (count_set g s) _ i _ (sixteen_with g s _ (λ here. is.each s here) is)
+sixteen_reply g s (commands.Cas r i a v) (replies.Was stamp) is = sixteen_write (count_set g s) _ i _ (sixteen_with g s _ (λ here. is.each s here) is)
 sixteen_reply g s (commands.Num d n) reply is = sixteen_put g s d _ is
 sixteen_reply g s (commands.Nil d) reply is = sixteen_put g s d _ is
 sixteen_reply g s (commands.Copy d r) reply is = sixteen_put g s d _ is

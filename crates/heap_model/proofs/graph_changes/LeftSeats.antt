@@ -18,7 +18,7 @@ use Rattle.heap_model.specs.declared.heap.Heap.{Heap}
 use Rattle.heap_model.specs.account.Cycles.{graph_of}
 use Rattle.heap_model.specs.graph.Legal.{Accepts, AcceptsAll, IsObjectLegal, IsPresent}
 use Rattle.heap_model.specs.graph.Objects.{graph_seat, register_value, absent_graph_seat}
-use Rattle.heap_model.specs.graph.Changes.{with_graph_seat, write, count_set, with_object_cell}
+use Rattle.heap_model.specs.graph.Changes.{with_graph_seat, write, count_set, set_cell, with_object_cell}
 use Rattle.heap_model.specs.graph.Growth.{after_entry, after_reply, graph_after}
 
 -- where the seat has left, its registers are empty
@@ -49,6 +49,9 @@ emptied_write g number (Number n) i cell has = has
 emptied_write g number (Object Board) i cell has = has
 emptied_write g number (Object (Made other count)) i cell has = emptied_with g number other (with_object_cell (graph_seat g other) count i cell) has (λ its. its)
 
+emptied_set : (g : Graph) (number other r i v : ℕ) → IsEmptied (graph_seat g number) → IsEmptied (graph_seat (set_cell g other r i v) number)
+emptied_set g number other r i v has = emptied_write (count_set g other) number (register_value g other r) i _ (emptied_with g number other _ has (λ its. its))
+
 -- the registers of one that leaves
 pub empty_register_is_nil : (r : ℕ) → (get_or (replicate register_count unset) r unset).value ≡ Nil
 empty_register_is_nil r = elim (cases_lt r register_count) as (λ _. (get_or (replicate register_count unset) r unset).value ≡ Nil) [
@@ -60,8 +63,8 @@ emptied_said : (g : Graph) (number other : ℕ) (command : Command) (reply : Rep
 emptied_said g number other (commands.New d fields) (replies.Made id) present has = emptied_with g number other _ has (λ its left. absurd (cc (present, left)))
 emptied_said g number other (commands.Array d cells) (replies.Made id) present has = emptied_with g number other _ has (λ its left. absurd (cc (present, left)))
 emptied_said g number other (commands.Get d r i) (replies.Got value stamp) present has = emptied_with g number other _ has (λ its left. absurd (cc (present, left)))
-emptied_said g number other (commands.Set r i v) (replies.Was stamp) present has =
-    emptied_write (count_set g other) number (register_value g other r) i _ (emptied_with g number other _ has (λ its. its))
+emptied_said g number other (commands.Set r i v) (replies.Was stamp) present has = emptied_set g number other r i v has
+emptied_said g number other (commands.Cas r i a v) (replies.Was stamp) present has = emptied_set g number other r i v has
 emptied_said g number other (commands.Num d n) reply present has = emptied_with g number other _ has (λ its left. absurd (cc (present, left)))
 emptied_said g number other (commands.Nil d) reply present has = emptied_with g number other _ has (λ its left. absurd (cc (present, left)))
 emptied_said g number other (commands.Copy d r) reply present has = emptied_with g number other _ has (λ its left. absurd (cc (present, left)))

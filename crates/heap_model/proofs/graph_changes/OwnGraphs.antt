@@ -19,7 +19,7 @@ use Rattle.heap_model.specs.declared.entry.Entry.{Entry}
 use Rattle.heap_model.specs.declared.heap.Heap.{Heap}
 use Rattle.heap_model.specs.declared.id.Id.TheVariants.{Made}
 use Rattle.heap_model.specs.declared.reply.Reply.{Reply}
-use Rattle.heap_model.specs.graph.Changes.{with_register, add, count_set}
+use Rattle.heap_model.specs.graph.Changes.{with_register, add, count_set, set_cell}
 use Rattle.heap_model.specs.graph.Growth.{after_entry, after_reply, graph_after}
 
 -- an entry of a seat is no other's
@@ -62,16 +62,20 @@ module _ (number : ℕ) (one other : Graph) (agrees : AgreeOn number one other) 
   agree_count = agree_on_same_seat_change number one other _ _ agrees
       record { registers = agrees.seat.registers; objects = agrees.seat.objects; sets = ap (λ n. n + 1) agrees.seat.sets; left = agrees.seat.left }
 
+  agree_set : (r i v : ℕ) → AgreeOn number (set_cell one number r i v) (set_cell other number r i v)
+  agree_set r i v =
+      agree_on_composed number (set_cell one number r i v) (count_set one number) (set_cell other number r i v)
+      (agree_on_reversed number (count_set one number) (set_cell one number r i v) (agree_on_after_write number (count_set one number) (register_value one number r) i _))
+      (agree_on_composed number (count_set one number) (count_set other number) (set_cell other number r i v) agree_count
+      (agree_on_after_write number (count_set other number) (register_value other number r) i _))
+
   -- a reply to the seat changes both alike
   agree_said : (command : Command) (reply : Reply) → AgreeOn number (after_reply one number command reply) (after_reply other number command reply)
   agree_said (commands.New d fields) (replies.Made id) = agree_add d (fresh false fields)
   agree_said (commands.Array d cells) (replies.Made id) = agree_add d (fresh true cells)
   agree_said (commands.Get d r i) (replies.Got value stamp) = agree_put d _
-  agree_said (commands.Set r i v) (replies.Was stamp) =
-      agree_on_composed number (after_reply one number (commands.Set r i v) (replies.Was stamp)) (count_set one number) (after_reply other number (commands.Set r i v) (replies.Was stamp))
-      (agree_on_reversed number (count_set one number) (after_reply one number (commands.Set r i v) (replies.Was stamp)) (agree_on_after_write number (count_set one number) (register_value one number r) i _))
-      (agree_on_composed number (count_set one number) (count_set other number) (after_reply other number (commands.Set r i v) (replies.Was stamp)) agree_count
-      (agree_on_after_write number (count_set other number) (register_value other number r) i _))
+  agree_said (commands.Set r i v) (replies.Was stamp) = agree_set r i v
+  agree_said (commands.Cas r i a v) (replies.Was stamp) = agree_set r i v
   agree_said (commands.Num d n) reply = agree_put d _
   agree_said (commands.Nil d) reply = agree_put d _
   agree_said (commands.Copy d r) reply =
@@ -79,14 +83,17 @@ module _ (number : ℕ) (one other : Graph) (agrees : AgreeOn number one other) 
   agree_said commands.Leave reply = agree_on_same_seat_change number one other _ _ agrees record { registers = refl; objects = agrees.seat.objects; sets = agrees.seat.sets; left = refl }
   agree_said command reply = agrees
 
+agree_on_other_set : (number other : ℕ) (g : Graph) (r i v : ℕ) → number ≢ other → AgreeOn number g (set_cell g other r i v)
+agree_on_other_set number other g r i v apart =
+    agree_on_composed number g (count_set g other) (set_cell g other r i v) (agree_on_with_other_seat number other g _ apart) (agree_on_after_write number (count_set g other) (register_value g other r) i _)
+
 -- a reply to another seat changes nothing of this one
 agree_others : (number other : ℕ) (g : Graph) (command : Command) (reply : Reply) → number ≢ other → AgreeOn number g (after_reply g other command reply)
+agree_others number other g (commands.Cas r i a v) (replies.Was stamp) apart = agree_on_other_set number other g r i v apart
 agree_others number other g (commands.New d fields) (replies.Made id) apart = agree_on_with_other_seat number other g _ apart
 agree_others number other g (commands.Array d cells) (replies.Made id) apart = agree_on_with_other_seat number other g _ apart
 agree_others number other g (commands.Get d r i) (replies.Got value stamp) apart = agree_on_with_other_seat number other g _ apart
-agree_others number other g (commands.Set r i v) (replies.Was stamp) apart =
-    agree_on_composed number g (count_set g other) (after_reply g other (commands.Set r i v) (replies.Was stamp)) (agree_on_with_other_seat number other g _ apart)
-    (agree_on_after_write number (count_set g other) (register_value g other r) i _)
+agree_others number other g (commands.Set r i v) (replies.Was stamp) apart = agree_on_other_set number other g r i v apart
 agree_others number other g (commands.Num d n) reply apart = agree_on_with_other_seat number other g _ apart
 agree_others number other g (commands.Nil d) reply apart = agree_on_with_other_seat number other g _ apart
 agree_others number other g (commands.Copy d r) reply apart = agree_on_with_other_seat number other g _ apart

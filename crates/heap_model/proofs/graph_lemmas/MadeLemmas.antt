@@ -39,6 +39,7 @@ said_made g number (commands.New d fields) (replies.Made id) = one_made g number
 said_made g number (commands.Array d cells) (replies.Made id) = one_made g number d (fresh true cells)
 said_made g number (commands.Get d r i) (replies.Got value stamp) = same_made g number _ refl
 said_made g number (commands.Set r i v) (replies.Was stamp) = written_made (count_set g number) (register_value g number r) i _ ∙ same_made g number _ refl
+said_made g number (commands.Cas r i a v) (replies.Was stamp) = written_made (count_set g number) (register_value g number r) i _ ∙ same_made g number _ refl
 said_made g number (commands.Num d n) reply = same_made g number _ refl
 said_made g number (commands.Nil d) reply = same_made g number _ refl
 said_made g number (commands.Copy d r) reply = same_made g number _ refl

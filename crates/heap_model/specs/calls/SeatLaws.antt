@@ -1,7 +1,7 @@
 -- What is true of every seat, and what follows of how its calls add entries.
 use Rattle.std.specs.Prelude.{◌≡◌, ◌≢◌, ℕ, ◌+◌, ◌*◌, ◌<◌, ◌≤◌, false, List, length, All}
 use Rattle.heap_model.specs.declared.command.Command.{Command}
-use Rattle.heap_model.specs.declared.command.Command.TheVariants.{New, Array, Set, Leave}
+use Rattle.heap_model.specs.declared.command.Command.TheVariants.{New, Array, Set, Cas, Leave}
 use Rattle.heap_model.specs.declared.entry.Entry.{Entry}
 use Rattle.heap_model.specs.declared.entry.Entry.TheVariants.{Said, Takes, GivesBack, Answers}
 use Rattle.heap_model.specs.declared.id.Id.TheVariants.{Board}
@@ -57,9 +57,10 @@ most_made _ = 0
 -- how many stamps of the seat a call of the command uses up at most
 abbrev pub most_stamped : Command → ℕ
 most_stamped (Set r i v) = 1
+most_stamped (Cas r i a v) = 1
 most_stamped _ = 0
 
--- only a leave makes the seat leave, only a call that makes an object counts one, and only a set counts a set
+-- only a leave makes the seat leave, only a call that makes an object counts one, and only a set or a cas counts a set
 pub record CountsUp (old new : SeatState) (command : Command) : Type 0 where
   pub present_stays : command ≢ Leave → (own_graph_seat new).left ≡ (own_graph_seat old).left
   pub made_more : length (own_graph_seat new).objects ≤ length (own_graph_seat old).objects + most_made command

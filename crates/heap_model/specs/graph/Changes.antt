@@ -38,15 +38,15 @@ write g (Number n) i cell = g
 write g (Object Board) i cell = record g { board = with_cell g.board i cell }
 write g (Object (Made other count)) i cell = with_graph_seat g other (with_object_cell (graph_seat g other) count i cell)
 
--- the stamp of the n-th set of a seat
+-- the stamp of the n-th set of a seat, its cas that swapped counted too
 abbrev pub set_stamp : ℕ → ℕ → ℕ
 set_stamp number n = (number + 1) * stamp_limit + n
 
--- the graph in which the seat did one more set
+-- the graph in which the seat did one more set, or one more cas that swapped
 abbrev pub count_set : Graph → ℕ → Graph
 count_set g number = with_graph_seat g number (record (graph_seat g number) { sets = (graph_seat g number).sets + 1 })
 
--- the graph after one more set of the seat: cell i of what its register r refers to holds the value of its register v
+-- the graph after one more set of the seat, or a cas that swapped: cell i of what its register r refers to holds the value of its register v
 abbrev pub set_cell : Graph → ℕ → ℕ → ℕ → ℕ → Graph
 set_cell g number r i v =
     write (count_set g number) (register_value g number r) i (record { value = register_value g number v; stamp = set_stamp number ((graph_seat g number).sets + 1) })

@@ -13,7 +13,7 @@ pub record Node : Type 0 where
   pub array : Bool
   pub cells : List Cell
 
--- a seat: its registers, each a value with the stamp under which it was seen, the objects that it made in their order, the number of its sets, and whether it left
+-- a seat: its registers, each a value with the stamp under which it was seen, the objects that it made in their order, the number of its sets and of its cas that swapped, and whether it left
 pub record GraphSeat : Type 0 where
   pub registers : List Cell
   pub objects : List Node

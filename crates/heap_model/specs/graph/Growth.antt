@@ -12,12 +12,14 @@ use Rattle.heap_model.specs.graph.Graph.{Graph, fresh, unseen, unset}
 use Rattle.heap_model.specs.graph.Changes.{with_register, add, set_cell, leave}
 pub use Rattle.heap_model.specs.graph.Changes.{with_cell, write, set_stamp}
 
--- the graph after a seat's command and its reply; a refusal changes nothing
+-- the graph after a seat's command and its reply; a refusal changes nothing, nor does a cas that finds another cell
 abbrev pub after_reply : Graph → ℕ → Command → Reply → Graph
 after_reply g number (commands.New d fields) (replies.Made id) = add g number d (fresh false fields)
 after_reply g number (commands.Array d cells) (replies.Made id) = add g number d (fresh true cells)
 after_reply g number (commands.Get d r i) (replies.Got value stamp) = with_register g number d (record { value = value; stamp = stamp })
 after_reply g number (commands.Set r i v) (replies.Was stamp) = set_cell g number r i v
+after_reply g number (commands.Cas r i a v) (replies.Was stamp) = set_cell g number r i v
+after_reply g number (commands.Cas r i a v) (replies.Now stamp) = g
 after_reply g number (commands.Num d n) reply = with_register g number d (unseen (Number n))
 after_reply g number (commands.Nil d) reply = with_register g number d unset
 after_reply g number (commands.Copy d r) reply = with_register g number d (register_cell g number r)

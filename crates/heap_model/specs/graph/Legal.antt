@@ -7,7 +7,7 @@ use Rattle.heap_model.specs.Command.{IsCommand}
 use Rattle.heap_model.specs.graph.Objects.{graph_seat}
 use Rattle.heap_model.specs.graph.Graph.{Graph, opening}
 use Rattle.heap_model.specs.graph.Growth.{after_entry}
-pub use Rattle.heap_model.specs.graph.Replies.{Says, Gets, Sets, Compares, Polls, Collects, length_reply}
+pub use Rattle.heap_model.specs.graph.Replies.{Says, Gets, Sets, Swaps, Compares, Polls, Collects, length_reply}
 
 -- the seat is one of the heap's, and hasn't left
 abbrev pub IsPresent : Graph → ℕ → Type 0

@@ -7,7 +7,7 @@ use Rattle.heap_model.specs.declared.command.Command.TheVariants as commands
 use Rattle.heap_model.specs.declared.reply.Reply.{Reply}
 use Rattle.heap_model.specs.declared.reply.Reply.TheVariants as replies
 use Rattle.heap_model.specs.declared.graph.cell.Cell.{Cell}
-use Rattle.heap_model.specs.graph.Objects.{graph_seat, register_value, target_node, cell_at}
+use Rattle.heap_model.specs.graph.Objects.{graph_seat, register_cell, register_value, target_node, cell_at}
 use Rattle.heap_model.specs.graph.Graph.{Node, Graph}
 
 -- an object is made, under the seat's next count, or there is too little space
@@ -28,6 +28,16 @@ Gets found reply = MatchResult found (λ cell. reply ≡ replies.Got cell.value 
 -- a set answers the stamp before it; and a stamp is left for it
 abbrev pub Sets : ℕ → Result Cell Reply → Reply → Type 0
 Sets sets found reply = MatchResult found (λ cell. (reply ≡ replies.Was cell.stamp) × (sets + 1 < stamp_limit)) (λ refusal. reply ≡ refusal)
+
+-- a cas finds the cell as the register was read, and answers its stamp as a set does; or it finds another value or stamp, and answers the stamp found
+abbrev pub SwapsAt : ℕ → Cell → Cell → Reply → Type 0
+SwapsAt sets seen cell (replies.Was stamp) = (cell ≡ seen) × (stamp ≡ cell.stamp) × (sets + 1 < stamp_limit)
+SwapsAt sets seen cell (replies.Now stamp) = (cell ≢ seen) × (stamp ≡ cell.stamp)
+SwapsAt sets seen cell _ = ⊥
+
+-- a cas answers so where there is a cell, and else as a set does
+abbrev pub Swaps : ℕ → Cell → Result Cell Reply → Reply → Type 0
+Swaps sets seen found reply = MatchResult found (λ cell. SwapsAt sets seen cell reply) (λ refusal. reply ≡ refusal)
 
 -- the length of an object, or that there is none
 abbrev pub length_reply : Option Node → Reply
@@ -57,6 +67,7 @@ Says g number (commands.New d fields) reply = Makes g number reply
 Says g number (commands.Array d cells) reply = MakesArray g number reply
 Says g number (commands.Get d r i) reply = Gets (cell_at g number r i) reply
 Says g number (commands.Set r i v) reply = Sets (graph_seat g number).sets (cell_at g number r i) reply
+Says g number (commands.Cas r i a v) reply = Swaps (graph_seat g number).sets (register_cell g number a) (cell_at g number r i) reply
 Says g number (commands.Num d n) reply = reply ≡ replies.Done
 Says g number (commands.Nil d) reply = reply ≡ replies.Done
 Says g number (commands.Copy d r) reply = reply ≡ replies.Done

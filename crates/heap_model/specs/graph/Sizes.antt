@@ -1,9 +1,10 @@
 -- How many fragments and spine words the objects of a graph have.
-use Rattle.std.specs.Prelude.{ℕ, if◌then◌else◌, List, length, sum_by}
+use Rattle.std.specs.Prelude.{◌≡◌, ℕ, if◌then◌else◌, List, length, sum_by}
 use Rattle.std.specs.Option.{option_map_or}
 use Rattle.heap_model.specs.declared.id.Id.{Id}
 use Rattle.heap_model.specs.graph.Objects.{node}
 use Rattle.heap_model.specs.graph.Graph.{Node, Graph}
+use Rattle.heap_model.specs.graph.Reach.{IsReach}
 use Rattle.heap_model.specs.Needs.{record_fragments, array_fragments, array_words}
 
 -- the fragments of an object
@@ -29,3 +30,9 @@ fragments_of_all g ids = sum_by (fragments_at g) ids
 -- the spine words of all these objects
 abbrev pub spine_words_of_all : Graph → List Id → ℕ
 spine_words_of_all g ids = sum_by (spine_words_at g) ids
+
+-- what is reached in the graph has so many fragments
+pub record HasReach (g : Graph) (fragments : ℕ) : Type 0 where
+  pub ids : List Id
+  pub reached : IsReach g ids
+  pub counted : fragments ≡ fragments_of_all g ids

@@ -50,7 +50,10 @@ impl Graph {
             (Command::Get { d, .. }, Reply::Got { value, stamp }) => {
                 self.put(seat, d, Cell { value, stamp })
             }
-            (Command::Set { r, i, v }, Reply::Was(_)) => self.set(seat, r, i, v),
+            (Command::Set { r, i, v } | Command::Cas { r, i, v, .. }, Reply::Was(_)) => {
+                self.set(seat, r, i, v)
+            }
+            (Command::Cas { .. }, Reply::Now(_)) => {}
             (Command::Num { d, n }, _) => self.put(seat, d, Cell::unseen(Value::Number(n))),
             (Command::Nil { d }, _) => self.put(seat, d, Cell::unseen(Value::Nil)),
             (Command::Copy { d, r }, _) => {
@@ -86,7 +89,7 @@ impl Graph {
         party.put(d, cell);
     }
 
-    /// Does a set of the seat: the value of its register `v` goes into a cell.
+    /// Does a set of the seat, or a cas that swaps: the value of its register `v` goes into a cell.
     fn set(&mut self, seat: u8, r: u8, i: u32, v: u8)
         requires seat { seat < length self.old.seats }
         requires sets { (graph_seat self.old seat).sets + 1 < 2 ^ 26 }

@@ -1,4 +1,4 @@
-ghost use Rattle.std.specs.Prelude.{◌≡◌, ◌↔◌, IsTrue};
+ghost use Rattle.std.specs.Prelude.{◌≡◌, ◌+◌, ◌<◌, ◌↔◌, IsTrue};
 
 use crate::command::Command;
 use crate::entry::Entry;
@@ -8,9 +8,10 @@ use crate::limits::STAMP_LIMIT;
 use crate::reply::Reply;
 
 impl Graph {
-    ghost use Rattle.heap_model.specs.graph.Objects.{graph_seat, cell_at, register_value, target_node};
+    ghost use Rattle.heap_model.specs.Limits.{stamp_limit};
+    ghost use Rattle.heap_model.specs.graph.Objects.{graph_seat, cell_at, register_cell, register_value, target_node};
     ghost use Rattle.heap_model.specs.graph.Legal.{Accepts};
-    ghost use Rattle.heap_model.specs.graph.Replies.{Says, Makes, Gets, Sets, Compares, length_reply};
+    ghost use Rattle.heap_model.specs.graph.Replies.{Says, Makes, Gets, Sets, Swaps, Compares, length_reply};
 
     pub(super) fn accepts(&self, entry: &Entry) -> bool
         ensures { IsTrue result ↔ Accepts self.now entry.now }
@@ -39,6 +40,7 @@ impl Graph {
             }
             Command::Get { r, i, .. } => self.gets(seat, r, i, reply),
             Command::Set { r, i, .. } => self.sets(seat, r, i, reply),
+            Command::Cas { r, i, a, .. } => self.swaps(seat, r, i, a, reply),
             Command::Num { .. } | Command::Nil { .. } | Command::Copy { .. } | Command::Leave => {
                 reply == Reply::Done
             }
@@ -80,9 +82,30 @@ impl Graph {
         ensures { IsTrue result ↔ Sets (graph_seat self.now seat).sets (cell_at self.now seat r i) reply }
     {
         match self.cell(seat, r, i) {
-            Ok(cell) => reply == Reply::Was(cell.stamp) && self.set_count(seat) < STAMP_LIMIT - 1,
+            Ok(cell) => reply == Reply::Was(cell.stamp) && self.has_stamp(seat),
             Err(refusal) => reply == refusal,
         }
+    }
+
+    fn swaps(&self, seat: u8, r: u8, i: u32, a: u8, reply: Reply) -> bool
+        ensures { IsTrue result ↔ Swaps (graph_seat self.now seat).sets (register_cell self.now seat a) (cell_at self.now seat r i) reply }
+    {
+        let seen = self.register(seat, a);
+        match (self.cell(seat, r, i), reply) {
+            (Ok(cell), Reply::Was(stamp)) => {
+                cell == seen && stamp == cell.stamp && self.has_stamp(seat)
+            }
+            (Ok(cell), Reply::Now(stamp)) => cell != seen && stamp == cell.stamp,
+            (Ok(_), _) => false,
+            (Err(refusal), _) => reply == refusal,
+        }
+    }
+
+    /// Whether the seat has a stamp left for one more set.
+    fn has_stamp(&self, seat: u8) -> bool
+        ensures { IsTrue result ↔ ((graph_seat self.now seat).sets + 1 < stamp_limit) }
+    {
+        self.set_count(seat) < STAMP_LIMIT - 1
     }
 
     fn compares(&self, seat: u8, a: u8, b: u8, reply: Reply) -> bool

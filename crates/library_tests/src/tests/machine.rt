@@ -9,6 +9,7 @@ mod fields;
 mod making;
 mod marking;
 mod reading;
+mod swaps;
 mod sweeping;
 mod texts;
 mod trial;

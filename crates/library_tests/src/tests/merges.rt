@@ -1,13 +1,15 @@
 //! Logs that are merged.
 
-ghost use Rattle.std.specs.Prelude.{◌≡◌, map, filter, IfOk};
+ghost use Rattle.std.specs.Prelude.{◌≡◌, map, filter, IfOk, OnOk};
+ghost use Rattle.heap_model.specs.Heap.{IsHeap};
 ghost use Rattle.heap_model.specs.Logs.{logs_of};
 ghost use Rattle.heap_model.specs.account.Effects.{is_of};
 ghost use Rattle.heap_model.specs.account.Noting.{is_collectors};
+ghost use Rattle.heap_model.specs.graph.Legal.{IsObjectLegal};
 
 use super::comparing::same;
-use heap_model::{Entry, Heap, Memory};
-use log_merge::{check, merge};
+use heap_model::{Command, Entry, Graph, Heap, Memory, Reply, Value};
+use log_merge::merge;
 use reply_text::read_history;
 use std::alloc::Global;
 use std::test::Fail;
@@ -51,13 +53,25 @@ fn logs_of(alloc: Global, heap: Heap, entries: &[Entry]) -> Result<Vec<Vec<Entry
     Ok(logs)
 }
 
-// What the logs of the entries of a run come to.
-fn merged(alloc: Global, text: &str) -> Result<Vec<Entry>, Fail> {
-    let history = read_history(alloc, text.as_bytes())?;
-    check(alloc, &history)?;
-    let entries = history.entries.as_slice();
-    let logs = logs_of(alloc, history.heap, entries)?;
-    Ok(merge(alloc, logs.as_slice(), history.heap)?)
+// Lets a graph grow by the entries, in this order.
+fn accept(alloc: Global, heap: Heap, entries: &[Entry]) -> Result<(), Fail>
+    requires { IsHeap heap }
+    ensures { OnOk result (IsObjectLegal heap entries.now) }
+{
+    let mut graph = Graph::new(alloc, heap)?;
+    for entry in entries {
+        graph.apply(entry)?;
+    }
+    Ok(())
+}
+
+// What the logs of the entries come to, which the graph accepts in the order in which they are given.
+fn merged(alloc: Global, heap: Heap, entries: &[Entry]) -> Result<Vec<Entry>, Fail>
+    requires { IsHeap heap }
+{
+    accept(alloc, heap, entries)?;
+    let logs = logs_of(alloc, heap, entries)?;
+    Ok(merge(alloc, logs.as_slice(), heap)?)
 }
 
 // Each is a run's entries in some order, and in that of the merge: a seat goes on until it has to wait; a get that
@@ -79,8 +93,59 @@ fn puts_first_what_is_ready(rt: HostRuntime) -> Result<(), Fail> {
         ),
     ] {
         let history = read_history(rt.alloc(), wanted.as_bytes())?;
-        let found = merged(rt.alloc(), given)?;
+        let run = read_history(rt.alloc(), given.as_bytes())?;
+        let found = merged(rt.alloc(), run.heap, run.entries.as_slice())?;
         same(&rt, &found.as_slice(), &history.entries.as_slice(), &given);
+    }
+    Ok(())
+}
+
+fn said(seat: u8, command: Command, reply: Reply) -> Entry {
+    Entry::Said {
+        seat,
+        command,
+        reply,
+    }
+}
+
+// The value of register 1 into the board's field 3, where the field is as register `a` was read.
+fn swap(a: u8) -> Command {
+    Command::Cas {
+        r: 0,
+        i: 3,
+        a,
+        v: 1,
+    }
+}
+
+// No text has a cas. One that swaps waits for those of other logs that found the field before it and left it, and for gets as a set does.
+#[test]
+fn puts_a_cas_that_left_the_field_first(rt: HostRuntime) -> Result<(), Fail> {
+    let heap = Heap::make(1, 0, 2).ok_or("the limits")?;
+    let number = |seat: u8, n: u32| said(seat, Command::Num { d: 1, n }, Reply::Done);
+    let left = said(1, swap(1), Reply::Now(0));
+    let swapped = said(0, swap(5), Reply::Was(0));
+    let got = said(
+        1,
+        Command::Get { d: 2, r: 0, i: 3 },
+        Reply::Got {
+            value: Value::Nil,
+            stamp: 0,
+        },
+    );
+    let later = said(1, swap(2), Reply::Now(0x400_0001));
+    for (given, wanted) in [
+        (
+            [number(1, 6), left, got, number(0, 5), swapped, later],
+            [number(0, 5), number(1, 6), left, got, swapped, later],
+        ),
+        (
+            [number(1, 6), got, left, number(0, 5), swapped, later],
+            [number(0, 5), number(1, 6), got, left, swapped, later],
+        ),
+    ] {
+        let found = merged(rt.alloc(), heap, given.as_slice())?;
+        same(&rt, &found.as_slice(), &wanted.as_slice(), &"a cas");
     }
     Ok(())
 }

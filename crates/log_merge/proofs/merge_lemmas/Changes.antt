@@ -14,7 +14,7 @@ use Rattle.heap_model.specs.declared.reply.Reply.{Reply}
 use Rattle.heap_model.specs.declared.reply.Reply.TheVariants as replies
 use Rattle.heap_model.specs.graph.Objects.{graph_seat, register_value, absent_graph_seat}
 use Rattle.heap_model.specs.graph.Graph.{Node, GraphSeat, Graph, fresh, unseen, unset}
-use Rattle.heap_model.specs.graph.Changes.{with_graph_seat, with_object_cell, write, set_stamp}
+use Rattle.heap_model.specs.graph.Changes.{with_graph_seat, with_object_cell, write, set_cell, set_stamp}
 use Rattle.heap_model.specs.graph.Growth.{after_reply}
 
 -- what a seat's own entries alone decide
@@ -78,6 +78,7 @@ change_of o number (commands.New d fields) (replies.Made id) = with_object o num
 change_of o number (commands.Array d cells) (replies.Made id) = with_object o number d (fresh true cells)
 change_of o number (commands.Get d r i) (replies.Got value stamp) = with_registers o (set o.registers d (record { value = value; stamp = stamp }))
 change_of o number (commands.Set r i v) (replies.Was stamp) = with_set o number r i v
+change_of o number (commands.Cas r i a v) (replies.Was stamp) = with_set o number r i v
 change_of o number (commands.Num d n) reply = with_registers o (set o.registers d (unseen (Number n)))
 change_of o number (commands.Nil d) reply = with_registers o (set o.registers d unset)
 change_of o number (commands.Copy d r) reply = with_registers o (set o.registers d (get_or o.registers r unset))
@@ -107,13 +108,17 @@ stays g number =
     let s = graph_seat g number in
     sym (more_none g number s.registers s.sets s.left ∙ ap (λ (seats : List GraphSeat). record g { seats = seats }) (set-get_or g.seats number absent_graph_seat))
 
+set_cell-changed : (g : Graph) (number r i v : ℕ) → set_cell g number r i v ≡ changed g number (with_set (own g number) number r i v)
+set_cell-changed g number r i v =
+    ap (λ (h : Graph). write h (register_value g number r) i (record { value = register_value g number v; stamp = set_stamp number ((graph_seat g number).sets + 1) })) (sym (more_none g number (graph_seat g number).registers ((graph_seat g number).sets + 1) (graph_seat g number).left))
+
 -- an entry makes this change
 pub after_reply-changed : (g : Graph) (number : ℕ) (command : Command) (reply : Reply) → after_reply g number command reply ≡ changed g number (change_of (own g number) number command reply)
 after_reply-changed g number (commands.New d fields) (replies.Made id) = refl
 after_reply-changed g number (commands.Array d cells) (replies.Made id) = refl
 after_reply-changed g number (commands.Get d r i) (replies.Got value stamp) = sym (more_none g number _ _ _)
-after_reply-changed g number (commands.Set r i v) (replies.Was stamp) =
-    ap (λ (h : Graph). write h (register_value g number r) i (record { value = register_value g number v; stamp = set_stamp number ((graph_seat g number).sets + 1) })) (sym (more_none g number (graph_seat g number).registers ((graph_seat g number).sets + 1) (graph_seat g number).left))
+after_reply-changed g number (commands.Set r i v) (replies.Was stamp) = set_cell-changed g number r i v
+after_reply-changed g number (commands.Cas r i a v) (replies.Was stamp) = set_cell-changed g number r i v
 after_reply-changed g number (commands.Num d n) reply = sym (more_none g number _ _ _)
 after_reply-changed g number (commands.Nil d) reply = sym (more_none g number _ _ _)
 after_reply-changed g number (commands.Copy d r) reply = sym (more_none g number _ _ _)

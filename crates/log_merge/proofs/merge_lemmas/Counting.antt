@@ -158,6 +158,7 @@ registers_said o number (commands.Nil d) reply next = put_in o d _
 registers_said o number (commands.Copy d r) reply next = put_in o d _ ∙ ap (set (values_of o) d) (sym (value_of_register o r))
 registers_said o number commands.Leave reply next = refl
 registers_said o number (commands.Set r i v) (replies.Was stamp) next = refl
+registers_said o number (commands.Cas r i a v) (replies.Was stamp) next = refl
 registers_said o number _ reply next = refl
 
 next_made : (g : Graph) (number : ℕ) (command : Command) (reply : Reply) → Says g number command reply → (id : Id) → reply ≡ replies.Made id → (d n : ℕ) → (command ≡ commands.New d n) ⊎ (command ≡ commands.Array d n)

@@ -11,17 +11,19 @@ use Rattle.heap_model.specs.declared.reply.Reply.TheVariants as replies
 use Rattle.heap_model.specs.declared.entry.Entry.{Entry}
 use Rattle.heap_model.specs.declared.entry.Entry.TheVariants as entries
 use Rattle.heap_model.specs.account.Noting.{seat_of}
-use Rattle.heap_model.specs.graph.Objects.{graph_seat, register_value}
+use Rattle.heap_model.specs.graph.Objects.{graph_seat, register_cell, register_value}
 use Rattle.heap_model.specs.graph.Graph.{Graph, unset}
 use Rattle.heap_model.specs.graph.Growth.{after_entry, after_reply}
-use Rattle.heap_model.specs.graph.Replies.{Says, Makes, MakesArray, Gets, Sets, Compares}
+use Rattle.heap_model.specs.graph.Replies.{Says, Makes, MakesArray, Gets, Sets, Swaps, Compares}
 use Rattle.heap_model.specs.graph.Legal.{Accepts, AcceptsAll, IsPresent}
+use Rattle.log_merge.specs.Merging.{Writes}
 use Rattle.log_merge.proofs.merge_lemmas.Changes.{Own, own, change_of, changed, after_reply-changed, own-changed_other}
 use Rattle.log_merge.proofs.merge_lemmas.Places.{look, len, IsKnown, len-changed}
 use Rattle.log_merge.proofs.merge_lemmas.Commuting.{changes_commute}
 use Rattle.log_merge.proofs.merge_lemmas.Sound.{IsSound}
 use Rattle.log_merge.proofs.merge_lemmas.SoundChanges.{call_changes_soundly}
-use Rattle.log_merge.proofs.merge_lemmas.Finding.{present_seat_is_there, IsSound-after, own_seat_stays_by_other, Touches, Writes, Finds, NoGets, set_cell_is_touched, changed_place_is_written, look_stays_by_other, changed_cell_is_written, IsGone, IsGone-after, IsGone-written, found_is_not_gone, touched_cell_is_found}
+use Rattle.log_merge.proofs.merge_lemmas.Finding.{present_seat_is_there, IsSound-after, own_seat_stays_by_other, NoGets, changed_place_is_written, look_stays_by_other, changed_cell_is_written, IsGone, IsGone-after, IsGone-written, found_is_not_gone}
+use Rattle.log_merge.proofs.merge_lemmas.Touching.{Touches, Finds, set_cell_is_touched, gets_elsewhere, writes_elsewhere, touched_cell_is_found}
 
 -- the entries are of two seats, where both are of one
 abbrev pub AreApart : Entry → Entry → Type 0
@@ -51,6 +53,9 @@ says_same g h number (commands.Get d r i) reply same looks lens says =
 says_same g h number (commands.Set r i v) reply same looks lens says =
     subst (λ (o : Own). Sets o.sets (look h (get_or o.registers r unset).value i) reply) (sym same)
     (subst (λ x. Sets (graph_seat g number).sets x reply) (sym (looks (register_value g number r) i (refl, refl))) says)
+says_same g h number (commands.Cas r i a v) reply same looks lens says =
+    subst (λ (o : Own). Swaps o.sets (get_or o.registers a unset) (look h (get_or o.registers r unset).value i) reply) (sym same)
+    (subst (λ x. Swaps (graph_seat g number).sets (register_cell g number a) x reply) (sym (looks (register_value g number r) i (refl, refl))) says)
 says_same g h number (commands.Num d n) reply same looks lens says = says
 says_same g h number (commands.Nil d) reply same looks lens says = says
 says_same g h number (commands.Copy d r) reply same looks lens says = says
@@ -91,6 +96,7 @@ accepts_after g a (entries.Said number command reply) sound accepts apart calm =
     touched_known : (g : Graph) (number : ℕ) (command : Command) (reply : Reply) (value : Value) (j : ℕ) → IsSound g → Touches g (entries.Said number command reply) value j → IsKnown g value
     touched_known g number (commands.Get d r i) reply value j sound touches = subst (IsKnown g) touches.0 (sound.registers number r)
     touched_known g number (commands.Set r i v) reply value j sound touches = subst (IsKnown g) touches.0 (sound.registers number r)
+    touched_known g number (commands.Cas r i a v) reply value j sound touches = subst (IsKnown g) touches.0 (sound.registers number r)
     touched_known g number _ reply value j sound touches = absurd touches
 accepts_after g a (entries.Takes number count) sound accepts apart calm = present_same g (after_entry g a) number (others_own g a (entries.Takes number count) number apart refl) accepts
 accepts_after g a (entries.GivesBack number count) sound accepts apart calm = present_same g (after_entry g a) number (others_own g a (entries.GivesBack number count) number apart refl) accepts
@@ -141,17 +147,11 @@ NoneIsDue g rest e = (value : Value) (j t : ℕ) → Writes g e value j t → No
 
 -- what an entry writes or finds after another seat's is what it does before
 writes_before : (g : Graph) (a e : Entry) (value : Value) (j t : ℕ) → AreApart e a → Writes (after_entry g a) e value j t → Writes g e value j t
-writes_before g a (entries.Said number (commands.Set r i v) (replies.Was stamp)) value j t apart writes =
-    (subst (λ (o : Own). (get_or o.registers r unset).value ≡ value) (others_own g a (entries.Said number (commands.Set r i v) (replies.Was stamp)) number apart refl) writes.0, writes.1, writes.2)
-writes_before g a _ value j t apart writes = absurd writes
+writes_before g a e value j t apart writes = writes_elsewhere (after_entry g a) g e value j t (λ number is. sym (others_own g a e number apart is)) writes
 
 finds_after : (g : Graph) (a e : Entry) (value : Value) (j t : ℕ) → AreApart e a → Finds g e value j t → Finds (after_entry g a) e value j t
-finds_after g a (entries.Said number (commands.Set r i v) (replies.Was stamp)) value j t apart (inr writes) =
-    inr (subst (λ (o : Own). (get_or o.registers r unset).value ≡ value) (sym (others_own g a (entries.Said number (commands.Set r i v) (replies.Was stamp)) number apart refl)) writes.0, writes.1, writes.2)
-finds_after g a (entries.Said number (commands.Get d r i) (replies.Got found stamp)) value j t apart (inl gets) =
-    inl (subst (λ (o : Own). (get_or o.registers r unset).value ≡ value) (sym (others_own g a (entries.Said number (commands.Get d r i) (replies.Got found stamp)) number apart refl)) gets.0, gets.1, gets.2)
-finds_after g a _ value j t apart (inr writes) = absurd writes
-finds_after g a _ value j t apart (inl gets) = absurd gets
+finds_after g a e value j t apart (inr writes) = inr (writes_elsewhere g (after_entry g a) e value j t (λ number is. others_own g a e number apart is) writes)
+finds_after g a e value j t apart (inl gets) = inl (gets_elsewhere g (after_entry g a) e value j t (λ number is. others_own g a e number apart is) gets)
 
 -- behind others' entries too, it finds nothing that is gone
 never : (g : Graph) (front back : List Entry) (e : Entry) (value : Value) (j t : ℕ) → IsSound g → IsGone g value j t → AcceptsAll g (front ++ e ∷ back) → AllApart e front → Finds g e value j t → ⊥

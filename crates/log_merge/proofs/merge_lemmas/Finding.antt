@@ -23,11 +23,12 @@ use Rattle.heap_model.specs.graph.Objects.{graph_seat, register_value, absent_gr
 use Rattle.heap_model.specs.graph.Graph.{Node, GraphSeat, Graph, unseen, unset, opening_graph_seat}
 use Rattle.heap_model.specs.graph.Changes.{set_stamp}
 use Rattle.heap_model.specs.graph.Growth.{after_entry}
-use Rattle.heap_model.specs.graph.Replies.{Says, Gets, Sets}
 use Rattle.heap_model.specs.graph.Legal.{Accepts, AcceptsAll, IsPresent}
-use Rattle.log_merge.proofs.merge_lemmas.Changes.{own, change_of, after_reply-changed, own-changed_other}
+use Rattle.log_merge.specs.Merging.{IsGetOf, Writes}
+use Rattle.log_merge.proofs.merge_lemmas.Changes.{own, change_of, changed, with_set, after_reply-changed, own-changed_other}
 use Rattle.log_merge.proofs.merge_lemmas.Places.{look, IsKnown, found_look_is_known, values_equal_or_apart, look-changed_other, look-changed_same}
-use Rattle.log_merge.proofs.merge_lemmas.Sound.{IsOld, IsSoundCell, IsSound, AllOfSeat, AllCells-look, Grows, Grows-changed, all_holds_or_default, IsKnown-grows, IsOld-grows, set_stands_at_cell, get_finds_its_cell}
+use Rattle.log_merge.proofs.merge_lemmas.Sound.{IsOld, IsSoundCell, IsSound, AllOfSeat, AllCells-look, Grows, Grows-changed, all_holds_or_default, IsKnown-grows, IsOld-grows, IsSetAt, set_stands_at_cell, swap_stands_at_cell, cas_finds_its_cell, get_finds_its_cell}
+use Rattle.log_merge.proofs.merge_lemmas.Touching.{Finds}
 use Rattle.log_merge.proofs.merge_lemmas.SoundChanges.{IsOld-none, call_changes_soundly, IsSound-changed}
 
 -- a seat that is present is there
@@ -85,50 +86,34 @@ own_seat_stays_by_other g (entries.Said other command reply) number apart =
     ap (λ h. own h number) (after_reply-changed g other command reply) ∙ own-changed_other g other number (change_of (own g other) other command reply) (λ e. apart (ap Some (sym e)))
 own_seat_stays_by_other g _ number apart = refl
 
--- the entry is a get or set of this cell
-abbrev pub Touches : Graph → Entry → Value → ℕ → Type 0
-Touches g (entries.Said number (commands.Get d r i) reply) value j = (register_value g number r ≡ value) × (i ≡ j)
-Touches g (entries.Said number (commands.Set r i v) reply) value j = (register_value g number r ≡ value) × (i ≡ j)
-Touches g _ value j = ⊥
-
--- a set that replaces this stamp there
-abbrev pub Writes : Graph → Entry → Value → ℕ → ℕ → Type 0
-Writes g (entries.Said number (commands.Set r i v) (replies.Was stamp)) value j t = (register_value g number r ≡ value) × (i ≡ j) × (stamp ≡ t)
-Writes g _ value j t = ⊥
-
--- a get that answers it
-abbrev pub IsGetOf : Graph → Entry → Value → ℕ → ℕ → Type 0
-IsGetOf g (entries.Said number (commands.Get d r i) (replies.Got found stamp)) value j t = (register_value g number r ≡ value) × (i ≡ j) × (stamp ≡ t)
-IsGetOf g _ value j t = ⊥
-
-abbrev pub Finds : Graph → Entry → Value → ℕ → ℕ → Type 0
-Finds g e value j t = IsGetOf g e value j t ⊎ Writes g e value j t
-
 -- none of the entries gets it
 abbrev pub NoGets : Graph → List Entry → Value → ℕ → ℕ → Type 0
 NoGets g [] value j t = Unit {0}
 NoGets g (a ∷ rest) value j t = (IsGetOf g a value j t → ⊥) × NoGets (after_entry g a) rest value j t
 
--- what is set is touched
-pub set_cell_is_touched : (g : Graph) (e : Entry) (value : Value) (j t : ℕ) → Writes g e value j t → Touches g e value j
-set_cell_is_touched g (entries.Said number (commands.Set r i v) (replies.Was stamp)) value j t writes = (writes.0, writes.1)
-set_cell_is_touched g _ value j t writes = absurd writes
-
 -- where an object's cell changes, it was set
 pub changed_place_is_written : (g : Graph) (number : ℕ) (command : Command) (reply : Reply) (id : Id) → (change_of (own g number) number command reply).place ≡ Object id
     → (t : ℕ) × Writes g (entries.Said number command reply) (change_of (own g number) number command reply).place (change_of (own g number) number command reply).index t
 changed_place_is_written g number (commands.Set r i v) (replies.Was stamp) id is = (stamp, (refl, refl, refl))
+changed_place_is_written g number (commands.Cas r i a v) (replies.Was stamp) id is = (stamp, (refl, refl, refl))
 changed_place_is_written g number (commands.New d fields) (replies.Made other) id is = absurd cc
 changed_place_is_written g number (commands.Array d cells) (replies.Made other) id is = absurd cc
 changed_place_is_written g number (commands.Get d r i) (replies.Got value stamp) id is = absurd cc
 changed_place_is_written g number _ reply id is = absurd cc
 
 -- it is set, or not
-set_or_not : (g : Graph) (e : Entry) (value : Value) (j : ℕ) → ((t : ℕ) × Writes g e value j t) ⊎ ((t : ℕ) → Writes g e value j t → ⊥)
-set_or_not g (entries.Said number (commands.Set r i v) (replies.Was stamp)) value j = elim (values_equal_or_apart (register_value g number r) value) [
-  | inr apart ↦ inr (λ t writes. apart writes.0)
-  | inl same ↦ elim (cases_eq i j) [ inl here ↦ inl (stamp, (same, here, refl)) | inr apart ↦ inr (λ t writes. apart writes.1) ]
+abbrev IsHere : Value → Value → ℕ → ℕ → ℕ → ℕ → Type 0
+IsHere one other i j stamp t = (one ≡ other) × (i ≡ j) × (stamp ≡ t)
+
+here_or_not : (one other : Value) (i j stamp : ℕ) → ((t : ℕ) × IsHere one other i j stamp t) ⊎ ((t : ℕ) → IsHere one other i j stamp t → ⊥)
+here_or_not one other i j stamp = elim (values_equal_or_apart one other) [
+  | inr apart ↦ inr (λ t is. apart is.0)
+  | inl same ↦ elim (cases_eq i j) [ inl here ↦ inl (stamp, (same, here, refl)) | inr apart ↦ inr (λ t is. apart is.1) ]
 ]
+
+set_or_not : (g : Graph) (e : Entry) (value : Value) (j : ℕ) → ((t : ℕ) × Writes g e value j t) ⊎ ((t : ℕ) → Writes g e value j t → ⊥)
+set_or_not g (entries.Said number (commands.Set r i v) (replies.Was stamp)) value j = here_or_not (register_value g number r) value i j stamp
+set_or_not g (entries.Said number (commands.Cas r i a v) (replies.Was stamp)) value j = here_or_not (register_value g number r) value i j stamp
 set_or_not g _ value j = inr (λ t writes. writes)
 
 -- what isn't set stays
@@ -151,23 +136,35 @@ pub record IsWritten (g : Graph) (e : Entry) (value : Value) (j t : ℕ) : Type 
   pub few : (own g seat).sets + 1 < stamp_limit
   pub stamp : new.stamp ≡ set_stamp seat ((own g seat).sets + 1)
 
+module _ (g : Graph) (number r i v stamp : ℕ) (command : Command) (sets : change_of (own g number) number command (replies.Was stamp) ≡ with_set (own g number) number r i v)
+    (sound : IsSound g) (at : IsSetAt g number (register_value g number r) i stamp) where
+  abbrev its_entry : Entry
+  its_entry = entries.Said number command (replies.Was stamp)
+
+  written_at : IsWritten g its_entry (register_value g number r) i stamp
+  written_at =
+      let c = with_set (own g number) number r i v in
+      record {
+        old = at.cell;
+        found = at.found;
+        shown = at.shown;
+        new = c.cell;
+        left = ap (λ h. look h (register_value g number r) i) (after_reply-changed g number command (replies.Was stamp) ∙ ap (changed g number) sets)
+            ∙ look-changed_same g number c at.cell (sound.registers number r) at.found;
+        seat = number;
+        few = at.few;
+        stamp = refl;
+      }
+
+  written_there : (value : Value) (j t : ℕ) → ((register_value g number r ≡ value) × (i ≡ j) × (stamp ≡ t)) → IsWritten g its_entry value j t
+  written_there value j t is =
+      subst (λ x. IsWritten g its_entry x j t) is.0 (subst (λ x. IsWritten g its_entry (register_value g number r) x t) is.1 (subst (λ x. IsWritten g its_entry (register_value g number r) i x) is.2 written_at))
+
 pub changed_cell_is_written : (g : Graph) (e : Entry) (value : Value) (j t : ℕ) → IsSound g → Accepts g e → Writes g e value j t → IsWritten g e value j t
 changed_cell_is_written g (entries.Said number (commands.Set r i v) (replies.Was stamp)) value j t sound accepts writes =
-    let at = set_stands_at_cell g number r i v stamp accepts.2 in
-    let e = entries.Said number (commands.Set r i v) (replies.Was stamp) in
-    let c = change_of (own g number) number (commands.Set r i v) (replies.Was stamp) in
-    let place : IsWritten g e (register_value g number r) i stamp = record {
-      old = at.cell;
-      found = at.found;
-      shown = at.shown;
-      new = c.cell;
-      left = ap (λ h. look h (register_value g number r) i) (after_reply-changed g number (commands.Set r i v) (replies.Was stamp))
-          ∙ look-changed_same g number c at.cell (sound.registers number r) at.found;
-      seat = number;
-      few = at.few;
-      stamp = refl;
-    } in
-    subst (λ x. IsWritten g e x j t) writes.0 (subst (λ x. IsWritten g e (register_value g number r) x t) writes.1 (subst (λ x. IsWritten g e (register_value g number r) i x) writes.2 place))
+    written_there g number r i v stamp (commands.Set r i v) refl sound (set_stands_at_cell g number r i v stamp accepts.2) value j t writes
+changed_cell_is_written g (entries.Said number (commands.Cas r i a v) (replies.Was stamp)) value j t sound accepts writes =
+    written_there g number r i v stamp (commands.Cas r i a v) refl sound (swap_stands_at_cell g number r i a v stamp accepts.2) value j t writes
 changed_cell_is_written g _ value j t sound accepts writes = absurd writes
 
 -- the cell is there, without this stamp, which no set will give again
@@ -210,12 +207,16 @@ IsGone-written g e value j t sound accepts writes =
       apart = fresh_apart g e value j t t is old;
     }
 
--- what an accepted get or set finds is there
+-- what an accepted get, set or cas finds is there
+found_there : (g : Graph) (one other : Value) (i j stamp t : ℕ) (cell : Cell) → look g one i ≡ Ok cell → cell.stamp ≡ stamp → ((one ≡ other) × (i ≡ j) × (stamp ≡ t)) → (found : Cell) × (look g other j ≡ Ok found) × (found.stamp ≡ t)
+found_there g one other i j stamp t cell there shown is = (cell, subst (λ x. look g x j ≡ Ok cell) is.0 (subst (λ x. look g one x ≡ Ok cell) is.1 there), shown ∙ is.2)
+
 finds_there : (g : Graph) (e : Entry) (value : Value) (j t : ℕ) → IsSound g → Accepts g e → Finds g e value j t → (cell : Cell) × (look g value j ≡ Ok cell) × (cell.stamp ≡ t)
 finds_there g e value j t sound accepts (inr writes) = (let is = changed_cell_is_written g e value j t sound accepts writes in (is.old, is.found, is.shown))
 finds_there g (entries.Said number (commands.Get d r i) (replies.Got found stamp)) value j t sound accepts (inl gets) =
-    let got = get_finds_its_cell g number d r i found stamp accepts.2 in
-    (got.0, subst (λ x. look g x j ≡ Ok got.0) gets.0 (subst (λ x. look g (register_value g number r) x ≡ Ok got.0) gets.1 got.1), got.3 ∙ gets.2)
+    let got = get_finds_its_cell g number d r i found stamp accepts.2 in found_there g (register_value g number r) value i j stamp t got.0 got.1 got.3 gets
+finds_there g (entries.Said number (commands.Cas r i a v) (replies.Now stamp)) value j t sound accepts (inl gets) =
+    let left = cas_finds_its_cell g number r i a v stamp accepts.2 in found_there g (register_value g number r) value i j stamp t left.0 left.1 left.2 gets
 finds_there g _ value j t sound accepts (inl gets) = absurd gets
 
 -- so it finds nothing that is gone
@@ -228,23 +229,3 @@ NoGets-gone g (a ∷ rest) value j t sound accepts gone = (
   (λ gets. found_is_not_gone g a value j t sound accepts.0 gone (inl gets)),
   NoGets-gone (after_entry g a) rest value j t (IsSound-after g a sound accepts.0) accepts.1 (IsGone-after g a value j t sound accepts.0 gone),
 )
-
--- an entry that touches a cell finds its stamp
-got_stamp : (g : Graph) (number d r i : ℕ) (reply : Reply) (value : Value) (j : ℕ) (cell : Cell) → Says g number (commands.Get d r i) reply → register_value g number r ≡ value → i ≡ j
-    → look g value j ≡ Ok cell → IsGetOf g (entries.Said number (commands.Get d r i) reply) value j cell.stamp
-got_stamp g number d r i reply value j cell says here at found =
-    let look_same : look g (register_value g number r) i ≡ Ok cell = ap (λ v. look g v i) here ∙ ap (look g value) at ∙ found in
-    let answer : reply ≡ replies.Got cell.value cell.stamp = subst (λ x. Gets x reply) look_same says in
-    subst (λ x. IsGetOf g (entries.Said number (commands.Get d r i) x) value j cell.stamp) (sym answer) (here, at, refl)
-
-was_stamp : (g : Graph) (number r i v : ℕ) (reply : Reply) (value : Value) (j : ℕ) (cell : Cell) → Says g number (commands.Set r i v) reply → register_value g number r ≡ value → i ≡ j
-    → look g value j ≡ Ok cell → Writes g (entries.Said number (commands.Set r i v) reply) value j cell.stamp
-was_stamp g number r i v reply value j cell says here at found =
-    let look_same : look g (register_value g number r) i ≡ Ok cell = ap (λ x. look g x i) here ∙ ap (look g value) at ∙ found in
-    let answer = subst (λ x. Sets (graph_seat g number).sets x reply) look_same says in
-    subst (λ x. Writes g (entries.Said number (commands.Set r i v) x) value j cell.stamp) (sym answer.0) (here, at, refl)
-
-pub touched_cell_is_found : (g : Graph) (e : Entry) (value : Value) (j : ℕ) (cell : Cell) → Accepts g e → Touches g e value j → look g value j ≡ Ok cell → Finds g e value j cell.stamp
-touched_cell_is_found g (entries.Said number (commands.Get d r i) reply) value j cell accepts touches found = inl (got_stamp g number d r i reply value j cell accepts.2 touches.0 touches.1 found)
-touched_cell_is_found g (entries.Said number (commands.Set r i v) reply) value j cell accepts touches found = inr (was_stamp g number r i v reply value j cell accepts.2 touches.0 touches.1 found)
-touched_cell_is_found g _ value j cell accepts touches found = absurd touches

@@ -12,7 +12,7 @@ use Rattle.heap_model.specs.declared.reply.Reply.TheVariants as replies
 use Rattle.heap_model.specs.declared.entry.Entry.{Entry}
 use Rattle.heap_model.specs.declared.entry.Entry.TheVariants as entries
 use Rattle.heap_model.specs.account.Effects.{is_of}
-use Rattle.heap_model.specs.account.Noting.{is_collectors}
+use Rattle.heap_model.specs.account.Noting.{seat_of, is_collectors}
 use Rattle.heap_model.specs.account.Cycles.{graph_of}
 use Rattle.heap_model.specs.Logs.{logs_of}
 use Rattle.heap_model.specs.graph.Objects.{register_value, opening}
@@ -86,12 +86,17 @@ left_count_falls_by_placed heap logs placed rest number e completion within mine
     (let one = ap length (left_of-placed heap logs placed rest e number completion within mine) in omega (arith, one)) (omega arith) (omega (arith, within))
 
 -- the get that the entry is, by the graph
+kind_shown : (heap : Heap) (logs : List (List Entry)) (placed rest : List Entry) (number seat r i stamp : ℕ) (e : Entry) → IsCompletion heap logs placed (e ∷ rest) → seat_of e ≡ Some seat → is_in_log heap number e ≡ true
+    → kind_of (get_or (registers_of (part_of heap number placed)) r Nil) i stamp ≡ kind_of (register_value (graph_of heap placed) seat r) i stamp
+kind_shown heap logs placed rest number seat r i stamp e completion its mine =
+    let log = seat_entry_in_own_log heap number seat e its mine in
+    let accepted = (AcceptsAll-parts (opening heap) placed (e ∷ rest) completion.legal).0 in
+    ap (λ rs. kind_of (get_or rs r Nil) i stamp) (sym (own_registers_are_shown heap placed number accepted log.0)) ∙ ap (λ v. kind_of v i stamp) (value_of_register (own (graph_of heap placed) number) r) ∙ ap (λ n. kind_of (register_value (graph_of heap placed) n r) i stamp) (sym log.1)
+
 got_shown : (heap : Heap) (logs : List (List Entry)) (placed rest : List Entry) (number : ℕ) (e : Entry) → IsCompletion heap logs placed (e ∷ rest) → is_in_log heap number e ≡ true
     → get_of (registers_of (part_of heap number placed)) e ≡ got_by (graph_of heap placed) e
-got_shown heap logs placed rest number (entries.Said seat (commands.Get d r i) (replies.Got found stamp)) completion mine =
-    let its_log = seat_entry_in_own_log heap number seat (commands.Get d r i) (replies.Got found stamp) mine in
-    let accepted = (AcceptsAll-parts (opening heap) placed (entries.Said seat (commands.Get d r i) (replies.Got found stamp) ∷ rest) completion.legal).0 in
-    ap (λ rs. kind_of (get_or rs r Nil) i stamp) (sym (own_registers_are_shown heap placed number accepted its_log.0)) ∙ ap (λ v. kind_of v i stamp) (value_of_register (own (graph_of heap placed) number) r) ∙ ap (λ n. kind_of (register_value (graph_of heap placed) n r) i stamp) (sym its_log.1)
+got_shown heap logs placed rest number (entries.Said seat (commands.Get d r i) (replies.Got found stamp)) completion mine = kind_shown heap logs placed rest number seat r i stamp _ completion refl mine
+got_shown heap logs placed rest number (entries.Said seat (commands.Cas r i a v) (replies.Now stamp)) completion mine = kind_shown heap logs placed rest number seat r i stamp _ completion refl mine
 got_shown heap logs placed rest number _ completion mine = refl
 
 -- its kind of get is counted once less

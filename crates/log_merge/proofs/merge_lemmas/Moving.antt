@@ -4,8 +4,6 @@ use Rattle.std.specs.List.{filter, range_with_len}
 use Rattle.std.proofs.lemmas.Bool.{cases_lt, cases_Bool, eqb-true, both_ways}
 use Rattle.std.proofs.lemmas.List.Elements.{filter-append}
 use Rattle.heap_model.specs.declared.heap.Heap.{Heap}
-use Rattle.heap_model.specs.declared.command.Command.TheVariants as commands
-use Rattle.heap_model.specs.declared.reply.Reply.TheVariants as replies
 use Rattle.heap_model.specs.declared.entry.Entry.{Entry}
 use Rattle.heap_model.specs.declared.entry.Entry.TheVariants as entries
 use Rattle.heap_model.specs.account.Effects.{is_of}
@@ -14,7 +12,7 @@ use Rattle.heap_model.specs.account.Cycles.{graph_of}
 use Rattle.heap_model.specs.Logs.{logs_of}
 use Rattle.heap_model.specs.graph.Objects.{opening}
 use Rattle.heap_model.specs.graph.Legal.{AcceptsAll}
-use Rattle.log_merge.specs.Merging.{is_in_log, part_of, HasPendingGet, WaitsForNone, IsReady, IsNext}
+use Rattle.log_merge.specs.Merging.{is_in_log, part_of, WaitsForNone, IsReady, IsNext}
 use Rattle.log_merge.specs.Placing.{IsCompletion}
 use Rattle.log_merge.proofs.merge_lemmas.Exchange.{AllApart, NoneIsDue, accepts_all_after_first}
 use Rattle.log_merge.proofs.merge_lemmas.Parts.{filter-yes, filter-no, no_more, parted_filter, seat_log_has_own_entries, collector_log_has_own_entries, part_of-collector, part_of-append, left_of-rest, filter-moved, is_of-seat_of}
@@ -44,13 +42,10 @@ out_of_log heap number front back x none here =
 -- none of the entries before it is due
 none_is_due : (heap : Heap) (logs : List (List Entry)) (placed rest front back : List Entry) (e : Entry) (number : ℕ) → IsCompletion heap logs placed rest → rest ≡ front ++ e ∷ back → part_of heap number front ≡ []
     → WaitsForNone heap logs placed number e → NoneIsDue (graph_of heap placed) front e
-none_is_due heap logs placed rest front back (entries.Said seat (commands.Set r i v) (replies.Was stamp)) number completion parted none waits = λ value j t writes.
+none_is_due heap logs placed rest front back e number completion parted none waits = λ value j t writes.
     no_gets_by_positions (graph_of heap placed) front value j t (λ one other x split gets.
-    let e = entries.Said seat (commands.Set r i v) (replies.Was stamp) in
     let whole : rest ≡ one ++ x ∷ (other ++ e ∷ back) = parted ∙ ap (λ es. es ++ e ∷ back) split ∙ append_assoc one (x ∷ other) (e ∷ back) in
-    let pending = recorded_get_is_pending heap logs placed rest one (other ++ e ∷ back) x value j t number completion whole (out_of_log heap number one other x (ap (part_of heap number) (sym split) ∙ none)) gets in
-    waits (subst (λ w. HasPendingGet heap logs placed number w i stamp) (sym writes.0) (subst (λ k. HasPendingGet heap logs placed number value k stamp) (sym writes.1) (subst (λ s. HasPendingGet heap logs placed number value j s) (sym writes.2) pending))))
-none_is_due heap logs placed rest front back _ number completion parted none waits = λ value j t writes. absurd writes
+    waits value j t writes (recorded_get_is_pending heap logs placed rest one (other ++ e ∷ back) x value j t number completion whole (out_of_log heap number one other x (ap (part_of heap number) (sym split) ∙ none)) gets))
 
 -- the seat of an entry of a seat's log
 pub log_entry_has_seat : (number : ℕ) (e : Entry) → is_of number e ≡ true → seat_of e ≡ Some number

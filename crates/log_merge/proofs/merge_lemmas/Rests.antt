@@ -1,5 +1,5 @@
 -- What is left of the logs has an order in which it is legal, and its first entry is ready.
-use Rattle.std.proofs.Common.{◌≡◌, ℕ, ◌<◌, inl, inr, true, false, List, [], ◌∷◌, ◌++◌, length, get_or, Some, refl, sym, ap, ◌∙◌, subst, arith, length-set}
+use Rattle.std.proofs.Common.{◌≡◌, ℕ, ◌<◌, inl, inr, true, false, List, [], ◌∷◌, ◌++◌, length, get_or, Some, is_none, refl, sym, ap, ◌∙◌, subst, arith, length-set}
 use Rattle.std.specs.List.{filter}
 use Rattle.std.proofs.lemmas.Bool.{cases_lt, cases_Bool, eqb-true, eq-eqb, both_ways}
 use Rattle.std.proofs.lemmas.List.{length-replicate}
@@ -23,11 +23,12 @@ use Rattle.heap_model.specs.graph.Graph.{Graph, unset, opening_graph_seat}
 use Rattle.heap_model.specs.graph.Changes.{write}
 use Rattle.heap_model.specs.graph.Growth.{after_entry, after_reply, graph_after}
 use Rattle.heap_model.specs.graph.Legal.{Accepts, AcceptsAll}
-use Rattle.log_merge.specs.Merging.{is_in_log, part_of, left_of, HasGet, HasPendingGet, WaitsForNone, IsReady}
+use Rattle.log_merge.specs.Merging.{is_in_log, part_of, left_of, IsGetOf, Writes, HasGet, HasPendingGet, IsReady}
 use Rattle.log_merge.specs.Placing.{IsCompletion}
 use Rattle.log_merge.proofs.merge_lemmas.Changes.{Own, own, own_after, change_of, seat_changed, after_reply-changed, own-changed}
 use Rattle.log_merge.proofs.merge_lemmas.Sound.{IsSound}
-use Rattle.log_merge.proofs.merge_lemmas.Finding.{present_seat_is_there, IsSound-opening, IsSound-after, own_seat_stays_by_other, Writes, IsGetOf, NoGets, IsGone-written, NoGets-gone}
+use Rattle.log_merge.proofs.merge_lemmas.Finding.{present_seat_is_there, IsSound-opening, IsSound-after, own_seat_stays_by_other, NoGets, IsGone-written, NoGets-gone}
+use Rattle.log_merge.proofs.merge_lemmas.Touching.{gets_elsewhere}
 use Rattle.log_merge.proofs.merge_lemmas.Parts.{filter-yes, filter-no, no_more, parted_filter, seat_log_has_own_entries, collector_log_has_own_entries, part_of-seat, part_of-append, left_of-rest, left_of-past, is_of-seat_of}
 
 -- the entries before, and those behind
@@ -117,14 +118,27 @@ no_get_at g [] back x value j t none gets = none.0 gets
 no_get_at g (e ∷ front) back x value j t none gets = no_get_at (after_entry g e) front back x value j t none.1 gets
 
 -- in which log a seat's entry stands
-pub seat_entry_in_own_log : (heap : Heap) (number seat : ℕ) (command : Command) (reply : Reply) → is_in_log heap number (entries.Said seat command reply) ≡ true → (number < heap.seats) × (seat ≡ number)
-seat_entry_in_own_log heap number seat command reply is = elim (cases_lt number heap.seats) [
-  | inl within ↦ (within, eqb-true seat number (sym (seat_log_has_own_entries heap number within (entries.Said seat command reply)) ∙ is))
-  | inr past ↦ absurd (let no : false ≡ true = sym (collector_log_has_own_entries heap number past (entries.Said seat command reply)) ∙ is in cc)
+pub seat_entry_in_own_log : (heap : Heap) (number seat : ℕ) (x : Entry) → seat_of x ≡ Some seat → is_in_log heap number x ≡ true → (number < heap.seats) × (seat ≡ number)
+seat_entry_in_own_log heap number seat x its is = elim (cases_lt number heap.seats) [
+  | inl within ↦ (within, eqb-true seat number (sym (is_of-seat_of number x seat its) ∙ sym (seat_log_has_own_entries heap number within x) ∙ is))
+  | inr past ↦ absurd (let none : is_none (seat_of x) ≡ true = sym (collector_log_has_own_entries heap number past x) ∙ is in let no : false ≡ true = sym (ap is_none its) ∙ none in cc)
 ]
 
-pub seat_in_log : (heap : Heap) (seat : ℕ) (command : Command) (reply : Reply) → seat < heap.seats → is_in_log heap seat (entries.Said seat command reply) ≡ true
-seat_in_log heap seat command reply within = seat_log_has_own_entries heap seat within (entries.Said seat command reply) ∙ eq-eqb seat seat refl
+seat_in_log : (heap : Heap) (seat : ℕ) (x : Entry) → seat_of x ≡ Some seat → seat < heap.seats → is_in_log heap seat x ≡ true
+seat_in_log heap seat x its within = seat_log_has_own_entries heap seat within x ∙ is_of-seat_of seat x seat its ∙ eq-eqb seat seat refl
+
+-- a get has a seat, which is there
+pub get_has_seat : (g : Graph) (x : Entry) (value : Value) (j t : ℕ) → IsGetOf g x value j t → (seat : ℕ) × (seat_of x ≡ Some seat)
+get_has_seat g (entries.Said seat (commands.Get d r i) (replies.Got found stamp)) value j t gets = (seat, refl)
+get_has_seat g (entries.Said seat (commands.Cas r i a v) (replies.Now stamp)) value j t gets = (seat, refl)
+get_has_seat g _ value j t gets = absurd gets
+
+accepted_seat_is_there : (g : Graph) (x : Entry) (seat : ℕ) → Accepts g x → seat_of x ≡ Some seat → seat < length g.seats
+accepted_seat_is_there g (entries.Said number command reply) seat accepts its = let same : number ≡ seat = cc in subst (λ n. n < length g.seats) same (present_seat_is_there g number accepts.0)
+accepted_seat_is_there g (entries.Takes number count) seat accepts its = let same : number ≡ seat = cc in subst (λ n. n < length g.seats) same (present_seat_is_there g number accepts)
+accepted_seat_is_there g (entries.GivesBack number count) seat accepts its = let same : number ≡ seat = cc in subst (λ n. n < length g.seats) same (present_seat_is_there g number accepts)
+accepted_seat_is_there g (entries.Answers number phase) seat accepts its = let same : number ≡ seat = cc in subst (λ n. n < length g.seats) same (present_seat_is_there g number accepts)
+accepted_seat_is_there g _ seat accepts its = absurd cc
 
 -- a get that is left of a log stands in the rest
 get_in_rest : (heap : Heap) (logs : List (List Entry)) (placed rest : List Entry) (other : ℕ) (value : Value) (i t : ℕ) → IsCompletion heap logs placed rest
@@ -132,46 +146,46 @@ get_in_rest : (heap : Heap) (logs : List (List Entry)) (placed rest : List Entry
 get_in_rest heap logs placed rest other value i t completion has none = elim (cases_lt heap.seats other) [
   | inl past ↦ no_more has.earlier has.later _ (sym (left_of-past heap logs placed rest other completion.kept past) ∙ has.parted)
   | inr within ↦ (
-      let x = entries.Said has.seat (commands.Get has.d has.r i) (replies.Got has.found t) in
-      let there = parted_filter (is_in_log heap other) rest has.earlier has.later x (sym (left_of-rest heap logs placed rest other completion.kept within) ∙ has.parted) in
-      let seat = seat_entry_in_own_log heap other has.seat (commands.Get has.d has.r i) (replies.Got has.found t) there.passes in
-      let same : own (graph_after (graph_of heap placed) there.front) other ≡ own (graph_of heap (part_of heap other placed ++ has.earlier)) other =
-      ap (λ g. own g other) (sym (graph_of-append heap placed there.front)) ∙ own_seat_by_parts heap other placed there.front seat.0 ∙ ap (λ es. own (graph_of heap (part_of heap other placed ++ es)) other) there.before in
-      let mine : own (graph_after (graph_of heap placed) there.front) has.seat ≡ own (graph_of heap (part_of heap other placed ++ has.earlier)) has.seat =
-      subst (λ n. own (graph_after (graph_of heap placed) there.front) n ≡ own (graph_of heap (part_of heap other placed ++ has.earlier)) n) (sym seat.1) same in
-      let gets : IsGetOf (graph_after (graph_of heap placed) there.front) x value i t = (ap (λ (o : Own). (get_or o.registers has.r unset).value) mine ∙ has.holds, refl, refl) in
-      no_get_at (graph_of heap placed) there.front there.back x value i t (subst (λ es. NoGets (graph_of heap placed) es value i t) there.parted none) gets)
+      let g = graph_of heap placed in
+      let own_part = part_of heap other placed ++ has.earlier in
+      let there = parted_filter (is_in_log heap other) rest has.earlier has.later has.entry (sym (left_of-rest heap logs placed rest other completion.kept within) ∙ has.parted) in
+      let same : (seat : ℕ) → seat_of has.entry ≡ Some seat → own (graph_after g there.front) seat ≡ own (graph_of heap own_part) seat = λ seat its.
+      let log = seat_entry_in_own_log heap other seat has.entry its there.passes in
+      subst (λ n. own (graph_after g there.front) n ≡ own (graph_of heap own_part) n) (sym log.1)
+      (ap (λ h. own h other) (sym (graph_of-append heap placed there.front)) ∙ own_seat_by_parts heap other placed there.front log.0 ∙ ap (λ es. own (graph_of heap (part_of heap other placed ++ es)) other) there.before) in
+      no_get_at g there.front there.back has.entry value i t (subst (λ es. NoGets g es value i t) there.parted none)
+      (gets_elsewhere (graph_of heap own_part) (graph_after g there.front) has.entry value i t same has.gets))
 ]
 
 -- and the other way round, for another log
 pub recorded_get_is_pending : (heap : Heap) (logs : List (List Entry)) (placed rest front back : List Entry) (x : Entry) (value : Value) (j t number : ℕ) → IsCompletion heap logs placed rest → rest ≡ front ++ x ∷ back
     → (is_in_log heap number x ≡ true → ⊥) → IsGetOf (graph_after (graph_of heap placed) front) x value j t → HasPendingGet heap logs placed number value j t
-recorded_get_is_pending heap logs placed rest front back (entries.Said seat (commands.Get d r i) (replies.Got found stamp)) value j t number completion parted out gets =
+recorded_get_is_pending heap logs placed rest front back x value j t number completion parted out gets =
     let g = graph_of heap placed in
-    let x = entries.Said seat (commands.Get d r i) (replies.Got found stamp) in
+    let by = get_has_seat (graph_after g front) x value j t gets in
+    let seat = by.0 in
     let accepted : Accepts (graph_after g front) x = (AcceptsAll-parts g front (x ∷ back) (subst (AcceptsAll g) parted (rest_is_accepted heap logs placed rest completion))).1.0 in
-    let within : seat < heap.seats = omega (arith, present_seat_is_there (graph_after g front) seat accepted.0, seat_count_after_history g front, seat_count_after_history (opening heap) placed, seat_count_at_opening heap) in
+    let there = accepted_seat_is_there (graph_after g front) x seat accepted by.1 in
+    let within : seat < heap.seats = omega (arith, there, seat_count_after_history g front, seat_count_after_history (opening heap) placed, seat_count_at_opening heap) in
+    let mine = seat_in_log heap seat x by.1 within in
+    let own_part = part_of heap seat placed ++ part_of heap seat front in
     let left : left_of heap logs placed seat ≡ part_of heap seat front ++ x ∷ part_of heap seat back =
     left_of-rest heap logs placed rest seat completion.kept (omega arith) ∙ ap (part_of heap seat) parted ∙ part_of-append heap seat front (x ∷ back)
-    ∙ ap (λ es. part_of heap seat front ++ es) (filter-yes (is_in_log heap seat) x back (seat_in_log heap seat (commands.Get d r i) (replies.Got found stamp) within)) in
-    let holds : register_value (graph_of heap (part_of heap seat placed ++ part_of heap seat front)) seat r ≡ value =
-    ap (λ (o : Own). (get_or o.registers r unset).value) (sym (own_seat_by_parts heap seat placed front within)) ∙ ap (λ h. register_value h seat r) (graph_of-append heap placed front) ∙ gets.0 in
-    let has : HasGet heap (part_of heap seat placed) (left_of heap logs placed seat) value i stamp = record {
-      earlier = part_of heap seat front;
-      seat = seat;
-      d = d;
-      r = r;
-      found = found;
-      later = part_of heap seat back;
-      parted = left;
-      holds = holds;
-    } in
+    ∙ ap (λ es. part_of heap seat front ++ es) (filter-yes (is_in_log heap seat) x back mine) in
+    let same : (other : ℕ) → seat_of x ≡ Some other → own (graph_of heap own_part) other ≡ own (graph_after g front) other = λ other its.
+    let one : seat ≡ other = (let e : Some seat ≡ Some other = sym by.1 ∙ its in cc) in
+    subst (λ n. own (graph_of heap own_part) n ≡ own (graph_after g front) n) one (sym (own_seat_by_parts heap seat placed front within) ∙ ap (λ h. own h seat) (graph_of-append heap placed front)) in
     record {
       other = seat;
-      apart = λ same. out (subst (λ n. is_in_log heap n x ≡ true) same (seat_in_log heap seat (commands.Get d r i) (replies.Got found stamp) within));
-      gets = subst (λ k. HasGet heap (part_of heap seat placed) (left_of heap logs placed seat) value k t) gets.1 (subst (λ s. HasGet heap (part_of heap seat placed) (left_of heap logs placed seat) value i s) gets.2 has);
+      apart = λ one. out (subst (λ n. is_in_log heap n x ≡ true) one mine);
+      gets = record {
+        earlier = part_of heap seat front;
+        entry = x;
+        later = part_of heap seat back;
+        parted = left;
+        gets = gets_elsewhere (graph_after g front) (graph_of heap own_part) x value j t same gets;
+      };
     }
-recorded_get_is_pending heap logs placed rest front back _ value j t number completion parted out gets = absurd gets
 
 -- the first of the rest replaces no stamp that any log has yet to get
 pub first_replaces_no_pending : (heap : Heap) (logs : List (List Entry)) (placed rest : List Entry) (e : Entry) (other : ℕ) (value : Value) (j t : ℕ) → IsCompletion heap logs placed (e ∷ rest)
@@ -185,16 +199,12 @@ first_replaces_no_pending heap logs placed rest e other value j t completion wri
   where
     sets_get_none : (g : Graph) (e : Entry) (value : Value) (j t : ℕ) → Writes g e value j t → IsGetOf g e value j t → ⊥
     sets_get_none g (entries.Said number (commands.Set r i v) (replies.Was stamp)) value j t writes gets = gets
+    sets_get_none g (entries.Said number (commands.Cas r i a v) (replies.Was stamp)) value j t writes gets = gets
     sets_get_none g _ value j t writes gets = writes
 
 -- so it is ready
 pub first_is_ready : (heap : Heap) (logs : List (List Entry)) (placed rest : List Entry) (e : Entry) (number : ℕ) → IsCompletion heap logs placed (e ∷ rest) → IsReady heap logs placed number e
 first_is_ready heap logs placed rest e number completion = record {
   accepted = (rest_is_accepted heap logs placed (e ∷ rest) completion).0;
-  waits = free e completion;
+  waits = λ value i stamp writes pending. first_replaces_no_pending heap logs placed rest e pending.other value i stamp completion writes pending.gets;
 }
-  where
-    free : (e : Entry) → IsCompletion heap logs placed (e ∷ rest) → WaitsForNone heap logs placed number e
-    free (entries.Said seat (commands.Set r i v) (replies.Was stamp)) completion = λ pending.
-        first_replaces_no_pending heap logs placed rest (entries.Said seat (commands.Set r i v) (replies.Was stamp)) pending.other (register_value (graph_of heap placed) seat r) i stamp completion (refl, refl, refl) pending.gets
-    free _ completion = tt

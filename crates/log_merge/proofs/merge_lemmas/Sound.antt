@@ -1,5 +1,5 @@
 -- In a graph that is sound nothing refers to what was not made yet, and no stamp is that of a set to come.
-use Rattle.std.proofs.Common.{◌≡◌, ℕ, ◌+◌, ◌<◌, ◌≤◌, inl, inr, false, List, length, get_or, slice_get, Option, Some, None, Ok, refl, sym, ap, subst, arith}
+use Rattle.std.proofs.Common.{◌≡◌, ℕ, ◌+◌, ◌<◌, ◌≤◌, inl, inr, false, List, length, get_or, slice_get, Option, Some, None, Result, Ok, Err, refl, sym, ap, subst, arith}
 use Rattle.std.specs.List.{All}
 use Rattle.std.proofs.lemmas.Bool.{cases_lt, cases_eq}
 use Rattle.std.proofs.lemmas.List.{get_or_past}
@@ -11,9 +11,10 @@ use Rattle.heap_model.specs.declared.id.Value.{Value}
 use Rattle.heap_model.specs.declared.id.Value.TheVariants.{Nil, Number, Object}
 use Rattle.heap_model.specs.declared.graph.cell.Cell.{Cell}
 use Rattle.heap_model.specs.declared.command.Command.TheVariants as commands
+use Rattle.heap_model.specs.declared.reply.Reply.{Reply}
 use Rattle.heap_model.specs.declared.reply.Reply.TheVariants as replies
-use Rattle.heap_model.specs.graph.Objects.{graph_seat, register_value, absent_graph_seat, target_node, cell_or_refusal, or_no_field}
-use Rattle.heap_model.specs.graph.Replies.{Says, Sets, Gets}
+use Rattle.heap_model.specs.graph.Objects.{graph_seat, register_cell, register_value, absent_graph_seat, target_node, cell_or_refusal, or_no_field}
+use Rattle.heap_model.specs.graph.Replies.{Says, Sets, Swaps, Gets}
 use Rattle.heap_model.specs.graph.Graph.{Node, GraphSeat, Graph, fresh}
 use Rattle.heap_model.specs.graph.Changes.{with_cell, with_object_cell, write, set_stamp}
 use Rattle.log_merge.proofs.merge_lemmas.Changes.{Own, own, Change, grown, seat_changed, changed, own-changed, own-changed_other}
@@ -149,6 +150,27 @@ pub set_stands_at_cell : (g : Graph) (number r i v stamp : ℕ) → Says g numbe
 set_stands_at_cell g number r i v stamp says =
     let all = node_set (target_node g (register_value g number r)) i (own g number).sets stamp says in
     record { cell = all.0; found = all.1; shown = all.2; few = all.3 }
+
+-- and a cas that swapped: it stands where a set would
+swap_is_set : (sets stamp : ℕ) (seen : Cell) (found : Result Cell Reply) → Swaps sets seen found (replies.Was stamp) → Sets sets found (replies.Was stamp)
+swap_is_set sets stamp seen (Ok cell) says = (ap replies.Was says.1, says.2)
+swap_is_set sets stamp seen (Err refusal) says = says
+
+pub swap_stands_at_cell : (g : Graph) (number r i a v stamp : ℕ) → Says g number (commands.Cas r i a v) (replies.Was stamp) → IsSetAt g number (register_value g number r) i stamp
+swap_stands_at_cell g number r i a v stamp says =
+    set_stands_at_cell g number r i v stamp (swap_is_set (own g number).sets stamp (register_cell g number a) (look g (register_value g number r) i) says)
+
+-- what a cas finds that left the cell
+cell_left : (c : Option Cell) (sets stamp : ℕ) (seen : Cell) → Swaps sets seen (or_no_field c) (replies.Now stamp) → (cell : Cell) × (or_no_field c ≡ Ok cell) × (cell.stamp ≡ stamp)
+cell_left None sets stamp seen says = absurd (let e : replies.Now stamp ≡ replies.NoField = says in cc)
+cell_left (Some cell) sets stamp seen says = (cell, refl, sym says.1)
+
+node_left : (o : Option Node) (i sets stamp : ℕ) (seen : Cell) → Swaps sets seen (cell_or_refusal o i) (replies.Now stamp) → (cell : Cell) × (cell_or_refusal o i ≡ Ok cell) × (cell.stamp ≡ stamp)
+node_left None i sets stamp seen says = absurd (let e : replies.Now stamp ≡ replies.NoObject = says in cc)
+node_left (Some n) i sets stamp seen says = cell_left (slice_get n.cells i) sets stamp seen says
+
+pub cas_finds_its_cell : (g : Graph) (number r i a v stamp : ℕ) → Says g number (commands.Cas r i a v) (replies.Now stamp) → (cell : Cell) × (look g (register_value g number r) i ≡ Ok cell) × (cell.stamp ≡ stamp)
+cas_finds_its_cell g number r i a v stamp says = node_left (target_node g (register_value g number r)) i (own g number).sets stamp (register_cell g number a) says
 
 -- what a get finds
 cell_got : (c : Option Cell) (value : Value) (stamp : ℕ) → Gets (or_no_field c) (replies.Got value stamp) → (cell : Cell) × (or_no_field c ≡ Ok cell) × (cell.value ≡ value) × (cell.stamp ≡ stamp)

@@ -18,7 +18,7 @@ use Rattle.heap_model.specs.graph.Graph.{Node, Graph, fresh, unseen, unset}
 use Rattle.heap_model.specs.graph.Changes.{set_stamp}
 use Rattle.log_merge.proofs.merge_lemmas.Changes.{Own, own, Change, with_object, with_set, change_of, seat_changed, changed, own-changed, own-changed_other}
 use Rattle.log_merge.proofs.merge_lemmas.Places.{IsKnown}
-use Rattle.log_merge.proofs.merge_lemmas.Sound.{AllCells, AllCells-look, AllCells-seat_changed, AllCells-weaker, AllCells-write, Grows, Grows-changed, IsKnown-grows, IsOld, IsOld-grows, IsSound, IsSoundCell, get_finds_its_cell, all_holds_or_default, set_stands_at_cell}
+use Rattle.log_merge.proofs.merge_lemmas.Sound.{AllCells, AllCells-look, AllCells-seat_changed, AllCells-weaker, AllCells-write, Grows, Grows-changed, IsKnown-grows, IsOld, IsOld-grows, IsSound, IsSoundCell, get_finds_its_cell, all_holds_or_default, set_stands_at_cell, swap_stands_at_cell}
 
 -- a change that keeps the graph sound
 pub record IsSoundChange (g : Graph) (number : ℕ) (c : Change) : Type 0 where
@@ -106,6 +106,8 @@ call_changes_soundly g number (commands.Get d r i) (replies.Got value stamp) sou
     let cell : Cell = record { value = value; stamp = stamp } in
     quiet_change g number (set (own g number).registers d cell) (own g number).left within (set_known g (own g number).registers d cell (sound.registers number) known)
 call_changes_soundly g number (commands.Set r i v) (replies.Was stamp) sound within says = set_change g number r i v within (sound.registers number) (set_stands_at_cell g number r i v stamp says).few
+call_changes_soundly g number (commands.Cas r i a v) (replies.Was stamp) sound within says =
+    set_change g number r i v within (sound.registers number) (swap_stands_at_cell g number r i a v stamp says).few
 call_changes_soundly g number (commands.Num d n) reply sound within says =
     quiet_change g number (set (own g number).registers d (unseen (Number n))) (own g number).left within (set_known g (own g number).registers d (unseen (Number n)) (sound.registers number) tt)
 call_changes_soundly g number (commands.Nil d) reply sound within says =

@@ -12,21 +12,21 @@ use Rattle.heap_model.specs.declared.reply.Reply.TheVariants as replies
 use Rattle.heap_model.specs.declared.entry.Entry.{Entry}
 use Rattle.heap_model.specs.declared.entry.Entry.TheVariants as entries
 use Rattle.heap_model.specs.account.Cycles.{graph_of}
+use Rattle.heap_model.specs.account.Noting.{seat_of}
 use Rattle.heap_model.specs.graph.Objects.{register_value, opening}
 use Rattle.heap_model.specs.graph.Graph.{Graph}
 use Rattle.heap_model.specs.graph.Legal.{Accepts, AcceptsAll}
 use Rattle.log_merge.specs.declared.merging.pending_gets.PendingGet.{PendingGet}
-use Rattle.log_merge.specs.Merging.{is_in_log, part_of, left_of, HasGet, WaitsForNone, IsReady, IsNext}
+use Rattle.log_merge.specs.Merging.{is_in_log, part_of, left_of, IsGetOf, Writes, HasGet, WaitsForNone, IsReady, IsNext}
 use Rattle.log_merge.specs.PendingGets.{is_kind}
 use Rattle.log_merge.specs.Registers.{opening_registers, registers_after, registers_of, kind_of, get_of, gets_in}
 use Rattle.log_merge.specs.Placing.{IsCompletion, count_in, count_left, replaced_by}
 use Rattle.log_merge.proofs.merge_lemmas.Changes.{own, values_of, value_of_register}
 use Rattle.log_merge.proofs.merge_lemmas.Places.{look}
-use Rattle.log_merge.proofs.merge_lemmas.Sound.{set_stands_at_cell}
-use Rattle.log_merge.proofs.merge_lemmas.Finding.{Writes}
+use Rattle.log_merge.proofs.merge_lemmas.Finding.{changed_cell_is_written}
 use Rattle.log_merge.proofs.merge_lemmas.Counting.{part-le-sum, positive_sum_has_part, HasKind-counted, kept_kind_is_counted, own_registers_are_shown}
 use Rattle.log_merge.proofs.merge_lemmas.Parts.{no_more, parted_filter, part_of-append, left_of-rest, left_of-past}
-use Rattle.log_merge.proofs.merge_lemmas.Rests.{AcceptsAll-parts, own_seat_by_parts, seat_entry_in_own_log, first_replaces_no_pending}
+use Rattle.log_merge.proofs.merge_lemmas.Rests.{AcceptsAll-parts, own_seat_by_parts, seat_entry_in_own_log, get_has_seat, placed_is_sound, first_replaces_no_pending}
 use Rattle.log_merge.proofs.merge_lemmas.Moving.{ready_stands_first}
 
 -- what a kind says of the value, the index and the stamp
@@ -38,6 +38,13 @@ kind_is (Object id) i stamp kind is =
     let same : made ≡ kind = cc in
     (ap (λ (k : PendingGet). Object k.object) same, ap (λ (k : PendingGet). k.index) same, ap (λ (k : PendingGet). k.stamp) same)
 
+-- and the kind of these
+abbrev kind_at : Id → ℕ → ℕ → PendingGet
+kind_at id i stamp = record { object = id; index = i; stamp = stamp }
+
+is_of_kind : (value : Value) (i stamp : ℕ) (kind : PendingGet) → ((value ≡ Object kind.object) × (i ≡ kind.index) × (stamp ≡ kind.stamp)) → kind_of value i stamp ≡ Some kind
+is_of_kind value i stamp kind is = ap (λ v. kind_of v i stamp) is.0 ∙ ap (λ j. Some (kind_at kind.object j stamp)) is.1 ∙ ap (λ t. Some (kind_at kind.object kind.index t)) is.2
+
 -- a seat's registers, as its log shows them, somewhere in the rest
 shown_at : (heap : Heap) (logs : List (List Entry)) (placed rest front back : List Entry) (number : ℕ) → IsCompletion heap logs placed rest → rest ≡ front ++ back → number < heap.seats
     → values_of (own (graph_of heap (part_of heap number placed ++ part_of heap number front)) number) ≡ fold registers_after (registers_of (part_of heap number placed)) (part_of heap number front)
@@ -48,66 +55,86 @@ shown_at heap logs placed rest front back number completion parted within =
     ∙ ap registers_of (part_of-append heap number placed front)
     ∙ fold-append registers_after opening_registers (part_of heap number placed) (part_of heap number front)
 
--- a get that is counted is one that the log has
-got_there : (heap : Heap) (placed left earlier later : List Entry) (x : Entry) (number : ℕ) (kind : PendingGet) → left ≡ earlier ++ x ∷ later → is_in_log heap number x ≡ true
-    → values_of (own (graph_of heap (part_of heap number placed ++ earlier)) number) ≡ fold registers_after (registers_of (part_of heap number placed)) earlier
-    → get_of (fold registers_after (registers_of (part_of heap number placed)) earlier) x ≡ Some kind → HasGet heap (part_of heap number placed) left (Object kind.object) kind.index kind.stamp
-got_there heap placed left earlier later (entries.Said seat (commands.Get d r i) (replies.Got found stamp)) number kind parted inside shown is =
-    let its_log = seat_entry_in_own_log heap number seat (commands.Get d r i) (replies.Got found stamp) inside in
-    let held = fold registers_after (registers_of (part_of heap number placed)) earlier in
-    let all = kind_is (get_or held r Nil) i stamp kind is in
-    let g = graph_of heap (part_of heap number placed ++ earlier) in
-    let holds : register_value g seat r ≡ Object kind.object = ap (λ n. register_value g n r) its_log.1 ∙ sym (value_of_register (own g number) r) ∙ ap (λ rs. get_or rs r Nil) shown ∙ all.0 in
-    record {
-      earlier = earlier;
-      seat = seat;
-      d = d;
-      r = r;
-      found = found;
-      later = later;
-      parted = parted ∙ ap (λ j. earlier ++ entries.Said seat (commands.Get d r j) (replies.Got found stamp) ∷ later) all.1
-          ∙ ap (λ s. earlier ++ entries.Said seat (commands.Get d r kind.index) (replies.Got found s) ∷ later) all.2;
-      holds = holds;
-    }
-got_there heap placed left earlier later _ number kind parted inside shown is = absurd cc
+-- and somewhere in the log
+shown_before : (heap : Heap) (logs : List (List Entry)) (placed rest earlier later : List Entry) (x : Entry) (number seat : ℕ) → IsCompletion heap logs placed rest → number ≤ heap.seats
+    → left_of heap logs placed number ≡ earlier ++ x ∷ later → seat_of x ≡ Some seat
+    → (seat ≡ number) × (values_of (own (graph_of heap (part_of heap number placed ++ earlier)) number) ≡ fold registers_after (registers_of (part_of heap number placed)) earlier)
+shown_before heap logs placed rest earlier later x number seat completion within parted its =
+    let there = parted_filter (is_in_log heap number) rest earlier later x (sym (left_of-rest heap logs placed rest number completion.kept within) ∙ parted) in
+    let log = seat_entry_in_own_log heap number seat x its there.passes in (
+      log.1,
+      subst (λ es. values_of (own (graph_of heap (part_of heap number placed ++ es)) number) ≡ fold registers_after (registers_of (part_of heap number placed)) es) there.before
+          (shown_at heap logs placed rest there.front (x ∷ there.back) number completion there.parted log.0),
+    )
 
+-- a get by the log's registers is one by the graph's
+module _ (heap : Heap) (placed earlier : List Entry) (number : ℕ) (kind : PendingGet)
+    (shown : values_of (own (graph_of heap (part_of heap number placed ++ earlier)) number) ≡ fold registers_after (registers_of (part_of heap number placed)) earlier) where
+  abbrev held : List Value
+  held = fold registers_after (registers_of (part_of heap number placed)) earlier
+
+  abbrev there : Graph
+  there = graph_of heap (part_of heap number placed ++ earlier)
+
+  shown_register : (seat r : ℕ) → seat ≡ number → get_or held r Nil ≡ register_value there seat r
+  shown_register seat r its = ap (λ rs. get_or rs r Nil) (sym shown) ∙ value_of_register (own there number) r ∙ ap (λ n. register_value there n r) (sym its)
+
+  cell_there : (seat r i stamp : ℕ) → seat ≡ number → kind_of (get_or held r Nil) i stamp ≡ Some kind → (register_value there seat r ≡ Object kind.object) × (i ≡ kind.index) × (stamp ≡ kind.stamp)
+  cell_there seat r i stamp its is = let all = kind_is (get_or held r Nil) i stamp kind is in (sym (shown_register seat r its) ∙ all.0, all.1, all.2)
+
+  got_there : (x : Entry) → ((seat : ℕ) → seat_of x ≡ Some seat → seat ≡ number) → get_of held x ≡ Some kind → IsGetOf there x (Object kind.object) kind.index kind.stamp
+  got_there (entries.Said seat (commands.Get d r i) (replies.Got found stamp)) its is = cell_there seat r i stamp (its seat refl) is
+  got_there (entries.Said seat (commands.Cas r i a v) (replies.Now stamp)) its is = cell_there seat r i stamp (its seat refl) is
+  got_there _ its is = absurd cc
+
+  kind_there : (seat r i stamp : ℕ) → seat ≡ number → ((register_value there seat r ≡ Object kind.object) × (i ≡ kind.index) × (stamp ≡ kind.stamp)) → kind_of (get_or held r Nil) i stamp ≡ Some kind
+  kind_there seat r i stamp its is = is_of_kind (get_or held r Nil) i stamp kind (shown_register seat r its ∙ is.0, is.1, is.2)
+
+  kind_of_get : (x : Entry) → ((seat : ℕ) → seat_of x ≡ Some seat → seat ≡ number) → IsGetOf there x (Object kind.object) kind.index kind.stamp → get_of held x ≡ Some kind
+  kind_of_get (entries.Said seat (commands.Get d r i) (replies.Got found stamp)) its gets = kind_there seat r i stamp (its seat refl) gets
+  kind_of_get (entries.Said seat (commands.Cas r i a v) (replies.Now stamp)) its gets = kind_there seat r i stamp (its seat refl) gets
+  kind_of_get _ its gets = absurd gets
+
+seat_of_kind : (held : List Value) (x : Entry) (kind : PendingGet) → get_of held x ≡ Some kind → (seat : ℕ) × (seat_of x ≡ Some seat)
+seat_of_kind held (entries.Said seat command reply) kind is = (seat, refl)
+seat_of_kind held _ kind is = absurd cc
+
+-- a get that is counted is one that the log has
 has_get : (heap : Heap) (logs : List (List Entry)) (placed rest : List Entry) (number : ℕ) (kind : PendingGet) → IsCompletion heap logs placed rest → number ≤ heap.seats
     → 0 < count_in heap logs placed kind number → HasGet heap (part_of heap number placed) (left_of heap logs placed number) (Object kind.object) kind.index kind.stamp
 has_get heap logs placed rest number kind completion within some =
     let has = HasKind-counted (registers_of (part_of heap number placed)) (left_of heap logs placed number) kind some in
-    let there = parted_filter (is_in_log heap number) rest has.earlier has.later has.entry (sym (left_of-rest heap logs placed rest number completion.kept within) ∙ has.parted) in
-    got_there heap placed (left_of heap logs placed number) has.earlier has.later has.entry number kind has.parted there.passes
-    (shown_in_seat has.entry has.earlier there.front there.back there.parted there.before there.passes has.is) has.is
-  where
-    shown_in_seat : (x : Entry) (earlier front back : List Entry) → rest ≡ front ++ x ∷ back → part_of heap number front ≡ earlier → is_in_log heap number x ≡ true
-        → get_of (fold registers_after (registers_of (part_of heap number placed)) earlier) x ≡ Some kind
-        → values_of (own (graph_of heap (part_of heap number placed ++ earlier)) number) ≡ fold registers_after (registers_of (part_of heap number placed)) earlier
-    shown_in_seat (entries.Said seat command reply) earlier front back parted before inside is =
-        let its_log = seat_entry_in_own_log heap number seat command reply inside in
-        subst (λ es. values_of (own (graph_of heap (part_of heap number placed ++ es)) number) ≡ fold registers_after (registers_of (part_of heap number placed)) es) before
-        (shown_at heap logs placed rest front (entries.Said seat command reply ∷ back) number completion parted its_log.0)
-    shown_in_seat _ earlier front back parted before inside is = absurd cc
+    let its = λ (seat : ℕ) (is : seat_of has.entry ≡ Some seat). shown_before heap logs placed rest has.earlier has.later has.entry number seat completion within has.parted is in
+    let seat = seat_of_kind (fold registers_after (registers_of (part_of heap number placed)) has.earlier) has.entry kind has.is in
+    record {
+      earlier = has.earlier;
+      entry = has.entry;
+      later = has.later;
+      parted = has.parted;
+      gets = got_there heap placed has.earlier number kind (its seat.0 seat.1).1 has.entry (λ s is. (its s is).0) has.is;
+    }
 
 -- and one that the log has is counted
 counted_get : (heap : Heap) (logs : List (List Entry)) (placed rest : List Entry) (number : ℕ) (id : Id) (i stamp : ℕ) → IsCompletion heap logs placed rest → number ≤ heap.seats
-    → HasGet heap (part_of heap number placed) (left_of heap logs placed number) (Object id) i stamp → 0 < count_in heap logs placed (record { object = id; index = i; stamp = stamp }) number
+    → HasGet heap (part_of heap number placed) (left_of heap logs placed number) (Object id) i stamp → 0 < count_in heap logs placed (kind_at id i stamp) number
 counted_get heap logs placed rest number id i stamp completion within has =
-    let kind : PendingGet = record { object = id; index = i; stamp = stamp } in
-    let x = entries.Said has.seat (commands.Get has.d has.r i) (replies.Got has.found stamp) in
+    let kind = kind_at id i stamp in
     let held = registers_of (part_of heap number placed) in
-    let there = parted_filter (is_in_log heap number) rest has.earlier has.later x (sym (left_of-rest heap logs placed rest number completion.kept within) ∙ has.parted) in
-    let its_log = seat_entry_in_own_log heap number has.seat (commands.Get has.d has.r i) (replies.Got has.found stamp) there.passes in
-    let shown : values_of (own (graph_of heap (part_of heap number placed ++ has.earlier)) number) ≡ fold registers_after held has.earlier =
-    subst (λ es. values_of (own (graph_of heap (part_of heap number placed ++ es)) number) ≡ fold registers_after held es) there.before (shown_at heap logs placed rest there.front (x ∷ there.back) number completion there.parted its_log.0) in
-    let holds : get_or (fold registers_after held has.earlier) has.r Nil ≡ Object id =
-    ap (λ rs. get_or rs has.r Nil) (sym shown) ∙ value_of_register (own (graph_of heap (part_of heap number placed ++ has.earlier)) number) has.r ∙ ap (λ n. register_value (graph_of heap (part_of heap number placed ++ has.earlier)) n has.r) (sym its_log.1) ∙ has.holds in
-    let is : get_of (fold registers_after held has.earlier) x ≡ Some kind = ap (λ v. kind_of v i stamp) holds in
-    subst (λ es. 0 < count_by (is_kind kind) (gets_in held es)) (sym has.parted) (kept_kind_is_counted held has.earlier has.later x kind is)
+    let its = λ (seat : ℕ) (is : seat_of has.entry ≡ Some seat). shown_before heap logs placed rest has.earlier has.later has.entry number seat completion within has.parted is in
+    let seat = get_has_seat (graph_of heap (part_of heap number placed ++ has.earlier)) has.entry (Object id) i stamp has.gets in
+    let is = kind_of_get heap placed has.earlier number kind (its seat.0 seat.1).1 has.entry (λ s is. (its s is).0) has.gets in
+    subst (λ es. 0 < count_by (is_kind kind) (gets_in held es)) (sym has.parted) (kept_kind_is_counted held has.earlier has.later has.entry kind is)
 
 -- what a set replaces
 replaced_writes : (g : Graph) (e : Entry) (kind : PendingGet) → replaced_by g e ≡ Some kind → Writes g e (Object kind.object) kind.index kind.stamp
 replaced_writes g (entries.Said seat (commands.Set r i v) (replies.Was stamp)) kind is = kind_is (register_value g seat r) i stamp kind is
+replaced_writes g (entries.Said seat (commands.Cas r i a v) (replies.Was stamp)) kind is = kind_is (register_value g seat r) i stamp kind is
 replaced_writes g _ kind is = absurd cc
+
+written_is_replaced : (g : Graph) (e : Entry) (kind : PendingGet) → Writes g e (Object kind.object) kind.index kind.stamp → replaced_by g e ≡ Some kind
+written_is_replaced g (entries.Said seat (commands.Set r i v) (replies.Was stamp)) kind writes = is_of_kind (register_value g seat r) i stamp kind writes
+written_is_replaced g (entries.Said seat (commands.Cas r i a v) (replies.Was stamp)) kind writes = is_of_kind (register_value g seat r) i stamp kind writes
+written_is_replaced g _ kind writes = absurd writes
 
 -- where gets are left of what it replaces, it isn't ready
 pub waiting_is_not_ready : (heap : Heap) (logs : List (List Entry)) (placed rest : List Entry) (number : ℕ) (e : Entry) (kind : PendingGet) → IsCompletion heap logs placed rest → number ≤ heap.seats → IsNext heap logs placed number e
@@ -128,17 +155,16 @@ object_there g (Object id) i cell found = (id, refl)
 -- where none are left, it waits for none
 pub waits_for_none : (heap : Heap) (logs : List (List Entry)) (placed rest : List Entry) (number : ℕ) (e : Entry) → IsCompletion heap logs placed rest → Accepts (graph_of heap placed) e
     → ((kind : PendingGet) → replaced_by (graph_of heap placed) e ≡ Some kind → 0 < count_left heap logs placed kind → ⊥) → WaitsForNone heap logs placed number e
-waits_for_none heap logs placed rest number (entries.Said seat (commands.Set r i v) (replies.Was stamp)) completion accepts none = λ pending.
+waits_for_none heap logs placed rest number e completion accepts none = λ value i stamp writes pending.
     let g = graph_of heap placed in
-    let at = set_stands_at_cell g seat r i v stamp accepts.2 in
-    let object = object_there g (register_value g seat r) i at.cell at.found in
-    let kind : PendingGet = record { object = object.0; index = i; stamp = stamp } in
+    let at = changed_cell_is_written g e value i stamp (placed_is_sound heap logs placed rest completion) accepts writes in
+    let object = object_there g value i at.old at.found in
+    let kind = kind_at object.0 i stamp in
     let gets : HasGet heap (part_of heap pending.other placed) (left_of heap logs placed pending.other) (Object object.0) i stamp =
     subst (λ w. HasGet heap (part_of heap pending.other placed) (left_of heap logs placed pending.other) w i stamp) object.1 pending.gets in
     elim (cases_lt heap.seats pending.other) [
-      | inl past ↦ no_more gets.earlier gets.later _ (sym (left_of-past heap logs placed rest pending.other completion.kept past) ∙ gets.parted)
-      | inr there ↦ none kind (ap (λ w. kind_of w i stamp) object.1)
+      | inl past ↦ no_more gets.earlier gets.later gets.entry (sym (left_of-past heap logs placed rest pending.other completion.kept past) ∙ gets.parted)
+      | inr there ↦ none kind (written_is_replaced g e kind (subst (λ w. Writes g e w i stamp) object.1 writes))
           (let one = counted_get heap logs placed rest pending.other object.0 i stamp completion there gets in
           let all = part-le-sum (count_in heap logs placed kind) 0 (heap.seats + 1) pending.other (omega arith) (omega (arith, there)) in omega (arith, one, all))
     ]
-waits_for_none heap logs placed rest number _ completion accepts none = tt

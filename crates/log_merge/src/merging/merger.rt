@@ -65,21 +65,21 @@ impl Merger {
         logs[number].as_slice().get(self.counts[number]).copied()
     }
 
-    /// The get that a set has to wait for, if the entry is one.
+    /// The get that a set, or a cas that swapped, has to wait for, if the entry is one.
     fn replaced_by(&self, entry: &Entry) -> Option<PendingGet>
         ensures { Accepts self.now.graph entry.now → result ≡ replaced_by self.now.graph entry.now }
     {
         match *entry {
             Entry::Said {
                 seat,
-                command: Command::Set { r, i, .. },
+                command: Command::Set { r, i, .. } | Command::Cas { r, i, .. },
                 reply: Reply::Was(stamp),
             } => kind_of(held(&self.graph, seat, r), i, stamp),
             _ => None,
         }
     }
 
-    /// The get that the entry is, if it is one that found a cell.
+    /// The get that the entry is, if it is one that found a cell, or a cas that left it.
     fn got_by(&self, entry: &Entry) -> Option<PendingGet>
         ensures { Accepts self.now.graph entry.now → result ≡ got_by self.now.graph entry.now }
     {
@@ -88,6 +88,11 @@ impl Merger {
                 seat,
                 command: Command::Get { r, i, .. },
                 reply: Reply::Got { stamp, .. },
+            }
+            | Entry::Said {
+                seat,
+                command: Command::Cas { r, i, .. },
+                reply: Reply::Now(stamp),
             } => kind_of(held(&self.graph, seat, r), i, stamp),
             _ => None,
         }

@@ -7,7 +7,7 @@ use heap_model::{Entry, Id, Memory, Value};
 use std::alloc::Global;
 use std::collections::BTreeMap;
 
-/// A get of a cell that a log still has, and the stamp that it answers.
+/// A get of a cell that a log still has, or a cas that leaves the cell, and the stamp that it answers.
 #[derive(Clone, Copy, PartialEq, Eq, PartialOrd, Ord)]
 pub struct PendingGet {
     pub object: Id,

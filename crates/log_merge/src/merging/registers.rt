@@ -38,16 +38,16 @@ impl Registers {
         }
     }
 
-    /// The get that the entry is, if it is one that found a cell.
+    /// The get that the entry is, if it is one that found a cell, or a cas that left it.
     pub fn get_of(&self, entry: &Entry) -> Option<PendingGet>
         ensures { result ≡ get_of self.now.values entry.now }
     {
-        match *entry {
-            Entry::Said {
-                command: Command::Get { r, i, .. },
-                reply: Reply::Got { stamp, .. },
-                ..
-            } => kind_of(self.value(r), i, stamp),
+        let Entry::Said { command, reply, .. } = *entry else {
+            return None;
+        };
+        match (command, reply) {
+            (Command::Get { r, i, .. }, Reply::Got { stamp, .. })
+            | (Command::Cas { r, i, .. }, Reply::Now(stamp)) => kind_of(self.value(r), i, stamp),
             _ => None,
         }
     }

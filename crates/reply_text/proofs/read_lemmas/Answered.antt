@@ -2,7 +2,7 @@
 use Rattle.std.proofs.Common.{◌≡◌, ℕ, ◌^◌, inr, List, [], ◌∷◌, true, Some, bytes_eq, codes, decimal, refl, arith}
 use Rattle.heap_model.specs.Behind.{behind_of}
 use Rattle.heap_model.specs.declared.command.Command.{Command}
-use Rattle.heap_model.specs.declared.command.Command.TheVariants.{New, Array, Get, Set, Num, Nil, Copy, Same, Len, Poll, Collect, Leave}
+use Rattle.heap_model.specs.declared.command.Command.TheVariants.{New, Array, Get, Set, Cas, Num, Nil, Copy, Same, Len, Poll, Collect, Leave}
 use Rattle.heap_model.specs.declared.command.TurnCommand.TheVariants as commands
 use Rattle.heap_model.specs.declared.id.Id.TheVariants.{Board, Made}
 use Rattle.heap_model.specs.declared.id.Value.TheVariants as values
@@ -96,6 +96,7 @@ answer_at-words (New d fields) reply h = making-again reply h
 answer_at-words (Array d cells) reply h = arraying-again reply h
 answer_at-words (Get d r i) reply h = getting-again reply h
 answer_at-words (Set r i v) reply h = setting-again reply h
+answer_at-words (Cas r i a v) reply h = absurd h
 answer_at-words (Num d n) reply h = done-again reply h
 answer_at-words (Nil d) reply h = done-again reply h
 answer_at-words (Copy d r) reply h = done-again reply h

@@ -3,9 +3,11 @@ use Rattle.std.proofs.Common.{◌≡◌, ◌≢◌, ℕ, ◌<◌, ◌^◌, ◌&&
 use Rattle.std.specs.Map.{lookup}
 use Rattle.heap_model.specs.Command.{IsCommand, IsWithin, IsTarget, IsRegister, IsIndex}
 use Rattle.heap_model.specs.declared.command.Command.{Command}
-use Rattle.heap_model.specs.declared.command.Command.TheVariants.{New, Array, Get, Set, Num, Nil, Copy, Same, Len, Poll, Collect, Leave}
+use Rattle.heap_model.specs.declared.command.Command.TheVariants.{New, Array, Get, Set, Cas, Num, Nil, Copy, Same, Len, Poll, Collect, Leave}
+use Rattle.heap_model.specs.declared.reply.Reply.{Reply}
 use Rattle.script_text.specs.declared.cause.Cause.{Cause}
 use Rattle.script_text.specs.declared.cause.Cause.TheVariants.{OutOfRange, TooManyWords}
+use Rattle.script_text.specs.Grammar.{IsScripted}
 use Rattle.script_text.specs.LineFaults.{command_fault, named_fault}
 use Rattle.script_text.specs.Numbers.{number_of}
 use Rattle.script_text.specs.Operands.{Range, target_range, register_range, index_range, commands, commands_with, fault_or, after_number, operands_fault}
@@ -13,6 +15,8 @@ use Rattle.script_text.specs.Words.{command_words}
 use Rattle.script_text.proofs.Numbers.{number_below-decimal}
 use Rattle.reply_text.specs.read.Commands.{within, operand_of, operands_at, scripted_at, command_at}
 use Rattle.reply_text.specs.read.Tokens.{◌>>=◌}
+use Rattle.reply_text.specs.Replies.{IsReply}
+use Rattle.reply_text.specs.Written.{IsSpelled}
 
 -- an operand in the range is read
 operand_of-decimal : (least most n : ℕ) → most < 10 ^ 10 → IsWithin least most n → operand_of (least, most) (decimal n) ≡ Some n
@@ -35,20 +39,30 @@ abbrev pub first_command : List (List ℕ) → Option (Command × List (List ℕ
 first_command [] = None
 first_command (word ∷ rest) = command_at word rest
 
+-- what has a reply in a text, and what a script may have, is spelled in a text
+pub answered_command_is_spelled : (command : Command) (reply : Reply) → IsReply command reply → IsSpelled command
+answered_command_is_spelled (Cas r i a v) reply none = absurd none
+answered_command_is_spelled _ reply is = tt
+
+pub scripted_command_is_spelled : (command : Command) → IsScripted command → IsSpelled command
+scripted_command_is_spelled (Cas r i a v) none = absurd none
+scripted_command_is_spelled _ is = tt
+
 -- a command that was spelled is read
-pub first_command-words : (command : Command) (rest : List (List ℕ)) → IsCommand command → first_command (command_words command ++ rest) ≡ Some (command, rest)
-first_command-words (New d fields) rest h = rw (target_of d h.0, operand_of-decimal 1 47 fields (omega arith) h.1) refl
-first_command-words (Array d cells) rest h = rw (target_of d h.0, operand_of-decimal 1 4096 cells (omega arith) h.1) refl
-first_command-words (Get d r i) rest h = rw (target_of d h.0, register_of r h.1, index_of i h.2) refl
-first_command-words (Set r i v) rest h = rw (register_of r h.0, index_of i h.1, register_of v h.2) refl
-first_command-words (Num d n) rest h = rw (target_of d h.0, operand_of-decimal 0 1073741823 n (omega arith) (omega arith, omega (arith, h.1))) refl
-first_command-words (Nil d) rest h = rw (target_of d h) refl
-first_command-words (Copy d r) rest h = rw (target_of d h.0, register_of r h.1) refl
-first_command-words (Same a b) rest h = rw (register_of a h.0, register_of b h.1) refl
-first_command-words (Len r) rest h = rw (register_of r h) refl
-first_command-words Poll rest h = refl
-first_command-words Collect rest h = refl
-first_command-words Leave rest h = refl
+pub first_command-words : (command : Command) (rest : List (List ℕ)) → IsCommand command → IsSpelled command → first_command (command_words command ++ rest) ≡ Some (command, rest)
+first_command-words (New d fields) rest h is = rw (target_of d h.0, operand_of-decimal 1 47 fields (omega arith) h.1) refl
+first_command-words (Array d cells) rest h is = rw (target_of d h.0, operand_of-decimal 1 4096 cells (omega arith) h.1) refl
+first_command-words (Get d r i) rest h is = rw (target_of d h.0, register_of r h.1, index_of i h.2) refl
+first_command-words (Set r i v) rest h is = rw (register_of r h.0, index_of i h.1, register_of v h.2) refl
+first_command-words (Cas r i a v) rest h none = absurd none
+first_command-words (Num d n) rest h is = rw (target_of d h.0, operand_of-decimal 0 1073741823 n (omega arith) (omega arith, omega (arith, h.1))) refl
+first_command-words (Nil d) rest h is = rw (target_of d h) refl
+first_command-words (Copy d r) rest h is = rw (target_of d h.0, register_of r h.1) refl
+first_command-words (Same a b) rest h is = rw (register_of a h.0, register_of b h.1) refl
+first_command-words (Len r) rest h is = rw (register_of r h) refl
+first_command-words Poll rest h is = refl
+first_command-words Collect rest h is = refl
+first_command-words Leave rest h is = refl
 
 -- what follows the first operand
 abbrev operands_after : List Range → Option (ℕ × List (List ℕ)) → Option (List ℕ × List (List ℕ))

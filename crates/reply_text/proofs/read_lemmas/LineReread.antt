@@ -1,7 +1,7 @@
 -- Each line that was spelled is read again.
 use Rattle.std.proofs.Common.{◌≡◌, ℕ, ◌<◌, ◌^◌, inr, List, [], ◌∷◌, ◌++◌, Option, Some, codes, decimal, refl, ◌∙◌, arith}
 use Rattle.heap_model.specs.declared.command.Command.{Command}
-use Rattle.heap_model.specs.declared.command.Command.TheVariants.{New, Array, Get, Set, Num, Nil, Copy, Same, Len, Poll, Collect, Leave}
+use Rattle.heap_model.specs.declared.command.Command.TheVariants.{New, Array, Get, Set, Cas, Num, Nil, Copy, Same, Len, Poll, Collect, Leave}
 use Rattle.heap_model.specs.declared.command.TurnCommand.TheVariants as commands
 use Rattle.heap_model.specs.declared.entry.Entry.{Entry}
 use Rattle.heap_model.specs.declared.entry.Entry.TheVariants as entries
@@ -19,7 +19,7 @@ use Rattle.reply_text.specs.read.EntryWords.{seat_entry}
 use Rattle.reply_text.specs.read.Tokens.{◌>>=◌, after_word}
 use Rattle.reply_text.specs.Written.{IsWritten}
 use Rattle.reply_text.proofs.read_lemmas.Answered.{answer_at-words, turning_at-words, cycling_at-words}
-use Rattle.reply_text.proofs.read_lemmas.CommandReading.{first_command, first_command-words}
+use Rattle.reply_text.proofs.read_lemmas.CommandReading.{answered_command_is_spelled, first_command, first_command-words}
 use Rattle.reply_text.proofs.read_lemmas.Reread.{number_at-decimal, decimal-other, id_of-word}
 
 -- what follows a seat's command
@@ -36,6 +36,7 @@ seat_entry-command seat (New d fields) rest = refl
 seat_entry-command seat (Array d cells) rest = refl
 seat_entry-command seat (Get d r i) rest = refl
 seat_entry-command seat (Set r i v) rest = refl
+seat_entry-command seat (Cas r i a v) rest = refl
 seat_entry-command seat (Num d n) rest = refl
 seat_entry-command seat (Nil d) rest = refl
 seat_entry-command seat (Copy d r) rest = refl
@@ -62,7 +63,7 @@ entry_line : (form : Form) (seats : ℕ) (entry : Entry) → seats < 2 ^ 8 → I
 entry_line form seats (entries.Said seat command reply) few h =
     seat_line form seats seat (command_words command ++ codes "=" ∷ reply_words reply) (entries.Said seat command reply) few h.0
     (seat_entry-command seat command (codes "=" ∷ reply_words reply)
-    ∙ rw (first_command-words command (codes "=" ∷ reply_words reply) h.1, answer_at-words command reply h.2) refl)
+    ∙ rw (first_command-words command (codes "=" ∷ reply_words reply) h.1 (answered_command_is_spelled command reply h.2), answer_at-words command reply h.2) refl)
 entry_line form seats (entries.Takes seat count) few h =
     seat_line form seats seat (codes "takes" ∷ decimal count ∷ []) (entries.Takes seat count) few h.0 (rw (number_at-decimal (2 ^ 32) count [] (omega arith) h.1) refl)
 entry_line form seats (entries.GivesBack seat count) few h =

@@ -3,7 +3,7 @@ use Rattle.std.proofs.Common.{◌≡◌, ◌==◌, ℕ, ◌-◌, ◌/◌, ◌%�
 use Rattle.std.specs.List.{AllByRecursion}
 use Rattle.heap_model.specs.Command.{IsCommand}
 use Rattle.heap_model.specs.declared.command.Command.{Command}
-use Rattle.heap_model.specs.declared.command.Command.TheVariants.{New, Array, Get, Set, Num, Nil, Copy, Same, Len, Poll, Collect, Leave}
+use Rattle.heap_model.specs.declared.command.Command.TheVariants.{New, Array, Get, Set, Cas, Num, Nil, Copy, Same, Len, Poll, Collect, Leave}
 use Rattle.heap_model.specs.declared.command.TurnCommand.{TurnCommand}
 use Rattle.heap_model.specs.declared.command.TurnCommand.TheVariants as commands
 use Rattle.heap_model.specs.declared.entry.Entry.{Entry}
@@ -135,6 +135,7 @@ reply-above (New d fields) = making-above
 reply-above (Array d cells) = arraying-above
 reply-above (Get d r i) = getting-above
 reply-above (Set r i v) = setting-above
+reply-above (Cas r i a v) = λ reply none. absurd none
 reply-above (Same a b) = comparing-above
 reply-above (Len r) = measuring-above
 reply-above Poll = polling-above
@@ -152,6 +153,8 @@ command-above (New d fields) h = command_words-above (New d fields) h
 command-above (Array d cells) h = command_words-above (Array d cells) h
 command-above (Get d r i) h = command_words-above (Get d r i) h
 command-above (Set r i v) h = command_words-above (Set r i v) h
+command-above (Cas r i a v) h =
+    (IsAbove-from_test 32 (codes "cas") refl, (IsAbove-decimal r (omega arith), (IsAbove-decimal i (omega arith), (IsAbove-decimal a (omega arith), (IsAbove-decimal v (omega arith), tt)))))
 command-above (Num d n) h = command_words-above (Num d n) h
 command-above (Nil d) h = command_words-above (Nil d) h
 command-above (Copy d r) h = command_words-above (Copy d r) h

@@ -2,7 +2,7 @@
 use Rattle.std.specs.Prelude.{ℕ, ◌^◌, List, [], ◌∷◌, Option, Some, None, bytes_eq, codes, if◌then◌else◌}
 use Rattle.heap_model.specs.Behind.{as_reply}
 use Rattle.heap_model.specs.declared.command.Command.{Command}
-use Rattle.heap_model.specs.declared.command.Command.TheVariants.{New, Array, Get, Set, Num, Nil, Copy, Same, Len, Poll, Collect, Leave}
+use Rattle.heap_model.specs.declared.command.Command.TheVariants.{New, Array, Get, Set, Cas, Num, Nil, Copy, Same, Len, Poll, Collect, Leave}
 use Rattle.heap_model.specs.declared.reply.Reply.{Reply}
 use Rattle.heap_model.specs.declared.reply.Reply.TheVariants as replies
 use Rattle.script_text.specs.Numbers.{number_below}
@@ -92,12 +92,17 @@ collecting_at word rest =
       Some (as_reply behind.0, behind.1))
     else None
 
+-- no text has a reply to a cas yet
+abbrev pub swapping_at : List ℕ → List (List ℕ) → Option (Reply × List (List ℕ))
+swapping_at word rest = None
+
 -- how the replies to the command are read
 abbrev pub answer_to : Command → List ℕ → List (List ℕ) → Option (Reply × List (List ℕ))
 answer_to (New d fields) = making_at
 answer_to (Array d cells) = arraying_at
 answer_to (Get d r i) = getting_at
 answer_to (Set r i v) = setting_at
+answer_to (Cas r i a v) = swapping_at
 answer_to (Num d n) = done_at
 answer_to (Nil d) = done_at
 answer_to (Copy d r) = done_at

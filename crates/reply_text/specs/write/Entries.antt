@@ -42,6 +42,7 @@ abbrev pub reply_words : Reply → List (List ℕ)
 reply_words (replies.Made id) = id_word id ∷ []
 reply_words (replies.Got value stamp) = value_words value ++ codes "at" ∷ stamp_word stamp ∷ []
 reply_words (replies.Was stamp) = codes "was" ∷ stamp_word stamp ∷ []
+reply_words (replies.Now stamp) = codes "now" ∷ stamp_word stamp ∷ []
 reply_words replies.Done = codes "ok" ∷ []
 reply_words replies.Yes = codes "yes" ∷ []
 reply_words replies.No = codes "no" ∷ []

@@ -205,6 +205,7 @@ pub fn read_reply(words: &mut Parts<'_>, command: &Command) -> Result<Reply, Mis
         Command::Array { .. } => arraying(word, words),
         Command::Get { .. } => getting(word, words),
         Command::Set { .. } => setting(word, words),
+        Command::Cas { .. } => Err(Misspelled),
         Command::Same { .. } => comparing(word, words),
         Command::Len { .. } => measuring(word, words),
         Command::Poll => polling(word, words),

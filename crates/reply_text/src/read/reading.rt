@@ -1,4 +1,5 @@
 ghost use Rattle.std.specs.Prelude.{◌≡◌, ℕ, ◌+◌, ◌<◌, ◌≤◌, None, Some, List, [], ◌∷◌, ◌++◌, length, map, IfOk, IfSome, OnOk, IfErr};
+ghost use Rattle.std.specs.List.{AllByRecursion};
 ghost use Rattle.heap_model.specs.Heap.{IsHeap};
 ghost use Rattle.script_text.specs.declared.script.Form.{Form};
 ghost use Rattle.script_text.specs.Reading.{FailsBy};
@@ -10,6 +11,7 @@ ghost use Rattle.reply_text.specs.read.Faults.{first_history_fault, form_of, his
 ghost use Rattle.reply_text.specs.read.Stages.{first_stage};
 ghost use Rattle.reply_text.specs.History.{IsHistory, form_line, too_many};
 ghost use Rattle.reply_text.specs.write.Lines.{history_line};
+ghost use Rattle.reply_text.specs.Written.{HasText};
 
 use crate::history::History;
 use crate::read::body::Body;
@@ -138,6 +140,7 @@ fn read(alloc: Global, text: &[u8]) -> Result<History, ScriptFault>
 /// The history that the text is.
 pub fn read_history(alloc: Global, text: &[u8]) -> Result<History, ScriptFault>
     ensures found { IfOk result (IsHistory text.now) }
+    ensures spelled { IfOk result (λ history. AllByRecursion HasText history.entries) }
     ensures none { OnOk result (first_history_fault text.now ≡ None) }
     ensures fault { IfErr result (FailsBy (first_history_fault text.now)) }
     // It is that history alone, and a text with a fault is none.

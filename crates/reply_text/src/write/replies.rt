@@ -83,6 +83,10 @@ pub fn push_reply(text: &mut Vec<u8>, reply: &Reply) -> Result<(), Memory>
             push_word(text, b"was")?;
             push_stamp(text, stamp)
         }
+        Reply::Now(stamp) => {
+            push_word(text, b"now")?;
+            push_stamp(text, stamp)
+        }
         Reply::Done => push_word(text, b"ok"),
         Reply::Yes => push_word(text, b"yes"),
         Reply::No => push_word(text, b"no"),

@@ -1,8 +1,10 @@
 ghost use Rattle.std.specs.Prelude.{◌≡◌, [], ◌∷◌, ◌++◌, map, OnOk, IfOk};
+ghost use Rattle.std.specs.List.{AllByRecursion};
 ghost use Rattle.script_text.specs.Text.{text_of};
 ghost use Rattle.reply_text.specs.declared.history_line.HistoryLine.TheVariants as lines;
 ghost use Rattle.reply_text.specs.History.{IsHistory, IsSpellable, form_line, history_lines, lines_with_mark, space_line};
 ghost use Rattle.reply_text.specs.write.Lines.{history_line};
+ghost use Rattle.reply_text.specs.Written.{HasText};
 
 use crate::history::{History, SpaceMark};
 use crate::write::rendering::push_entry;
@@ -87,6 +89,7 @@ fn render(alloc: Global, history: &History) -> Result<Vec<u8>, Memory>
 
 /// The text of the history, each line with its line feed.
 pub fn render_history(alloc: Global, history: &History) -> Result<Vec<u8>, Memory>
+    requires { AllByRecursion HasText history.now.entries }
     ensures text { IfOk result (λ text. text.items ≡ text_of (history_lines history.now)) }
     // Read again, the text is this history.
     ensures again { IsSpellable history.now →

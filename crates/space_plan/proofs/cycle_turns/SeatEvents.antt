@@ -2,7 +2,7 @@
 use Rattle.std.specs.Int.{bit_at}
 use Rattle.std.specs.Prelude.{IfSome, if◌then◌else◌, option_map}
 use Rattle.std.proofs.Common.{◌≡◌, ℕ, ◌+◌, ◌*◌, ◌/◌, ◌<◌, ◌≤◌, Bool, true, false, Option, Some, None, refl, ap, ◌∙◌, subst, arith}
-use Rattle.core_rule.proofs.Terms.{control_of, marked_at, Command, Heap, Point, Swapping, move_at, due_step, refusal_step, is_last_birth, last_birth_move, birth_move, Move, Seat, State, seat_at}
+use Rattle.core_rule.proofs.Terms.{control_of, marked_at, Command, Heap, Point, Swapping, Replacing, move_at, due_step, refusal_step, is_last_birth, last_birth_move, birth_move, Move, Seat, State, seat_at}
 use Rattle.core_rule.proofs.Terms.{state_after, state_after_due, Steps, Can, HasWord, address_of, Book, IsMarked, marked_bit, IsBorn, WhileAccess, spine_words_in, at, Word, row_of, field_of, Rule}
 use Rattle.heap_model.specs.declared.command.Command.TheVariants as commands
 use Rattle.core_machine.specs.declared.point.Access.{Access}
@@ -43,10 +43,9 @@ module _ (heap : Heap) (state : State) (book : Book) (rule : Rule heap state boo
     abbrev seat : Seat
     seat = seat_at state number
 
-    -- a swap meets a cell, no array's meta
-    swap_meets_untold : seat.point ≡ points.Access Swapping → told_words heap state.words seat.reached ≡ 0
-    swap_meets_untold is =
-        let reaches : IsFieldPlace heap book number seat = subst (WhileAccess (ReachesOwn heap book number seat)) is (reaches_own heap state book number rule here) in
+    -- a step on a field meets a cell, no array's meta
+    field_is_untold : IsFieldPlace heap book number seat → told_words heap state.words seat.reached ≡ 0
+    field_is_untold reaches =
         where_set_of_none _ _ (kept_tells_no_spine heap state book rule seat.reached reaches.object reaches.row reaches.on.owned (λ kind.
         let row : reaches.row + 0 ≡ field_of seat.command / 4 + 1 = reaches.ahead ∙ ap (λ array. if array then field_of seat.command / 4 + 1 else row_of (field_of seat.command)) kind in
         omega (arith, row)))
@@ -80,7 +79,8 @@ module _ (heap : Heap) (state : State) (book : Book) (rule : Rule heap state boo
     making_spares _ is there = tt
 
     access_spares : (access : Access) → seat.point ≡ points.Access access → DueSpares (points.Access access)
-    access_spares Swapping is = λ first. swap_meets_untold is
+    access_spares Swapping is = λ first. field_is_untold (subst (WhileAccess (ReachesOwn heap book number seat)) is (reaches_own heap state book number rule here))
+    access_spares Replacing is = λ first. field_is_untold (subst (WhileAccess (ReachesOwn heap book number seat)) is (reaches_own heap state book number rule here))
     access_spares _ is = tt
 
     due_spares : (point : Point) → seat.point ≡ point → WhereDue (λ step. HasWord heap (address_of step)) point → DueSpares point

@@ -25,6 +25,7 @@ abbrev pub Spares : Heap → List ℕ → Step → Type 0
 Spares heap words (steps.Making (makings.GiveBack group bits)) = bits < 2 ^ 16
 Spares heap words (steps.Making (makings.NewbornStore fragment part word)) = part ≡ 0 → told_words heap words fragment ≡ 0
 Spares heap words (steps.Access (accesses.Swap fragment part word)) = part ≡ 0 → told_words heap words fragment ≡ 0
+Spares heap words (steps.Access (accesses.CompareSwap fragment part old new)) = part ≡ 0 → told_words heap words fragment ≡ 0
 Spares heap words (steps.Turning (turnings.Free group bits)) = ⊥
 Spares heap words (steps.Turning (turnings.Clear group)) = ⊥
 Spares heap words _ = Unit {0}
@@ -108,6 +109,7 @@ module _ (heap : Heap) (words : List ℕ) where
     step_loses_nothing (steps.Access (accesses.OldLoad fragment part)) there spares = loaded _
     step_loses_nothing (steps.Access (accesses.Shade fragment)) there spares = by_or (fragment / 16) _ there
     step_loses_nothing (steps.Access (accesses.Swap fragment part word)) there spares = on_word fragment part _ there spares
+    step_loses_nothing (steps.Access (accesses.CompareSwap fragment part old new)) there spares = on_word fragment part _ there spares
     step_loses_nothing (steps.Spine (spines.BudgetAdd n)) there spares = early _ _ (omega arith)
     step_loses_nothing (steps.Spine (spines.BudgetTakeBack n)) there spares = early _ _ (omega arith)
     step_loses_nothing (steps.Spine (spines.SpotClaim n)) there spares = early _ _ (omega arith)

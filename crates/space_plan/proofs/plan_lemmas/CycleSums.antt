@@ -4,19 +4,20 @@ use Rattle.std.specs.List.{range_with_len}
 use Rattle.std.proofs.lemmas.List.Sums.{sum_by-cons}
 use Rattle.heap_model.specs.Board.{board_fragments}
 use Rattle.heap_model.specs.declared.entry.Entry.{Entry}
+use Rattle.heap_model.specs.declared.entry.Entry.TheVariants as entries
 use Rattle.heap_model.specs.declared.heap.Heap.{Heap}
 use Rattle.heap_model.specs.declared.id.Id.{Id}
 use Rattle.heap_model.specs.account.Cycles.{graph_of, bound}
 use Rattle.heap_model.specs.account.Effects.{effect_of}
+use Rattle.heap_model.specs.account.PhaseCounts.{phase}
 use Rattle.heap_model.specs.account.Space.{total, taken_of, fragments_unborn}
 use Rattle.heap_model.specs.account.Windows.{begins_cycle, up_to_reply, since_reply, up_to_cycle, since_cycle, after_last}
-use Rattle.heap_model.specs.graph.Graph.{Graph}
-use Rattle.heap_model.specs.graph.Sizes.{fragments_of_all}
+use Rattle.heap_model.specs.graph.Sizes.{fragments_of_all, HasReach}
 use Rattle.heap_model.proofs.Histories.{total-more}
 use Rattle.heap_model.proofs.account_lemmas.Windows.{up_to_last-yes, up_to_last-no, after_last-yes, after_last-no}
 use Rattle.reply_text.specs.write.Counts.{is_end}
 use Rattle.space_plan.specs.declared.planning.begun.BegunCycle.{BegunCycle}
-use Rattle.space_plan.specs.plan.Cycles.{HasReach, cycle_takes, taken_since_replies}
+use Rattle.space_plan.specs.plan.Cycles.{cycle_takes, taken_since_replies}
 use Rattle.space_plan.specs.plan.Takes.{taken_since_end}
 use Rattle.space_plan.specs.plan.Totals.{IsGreatest, IsReached}
 use Rattle.space_plan.specs.plan.Seats.{unborn_at_replies}
@@ -75,15 +76,20 @@ BegunTells-opening heap begun reach reserves since most = record {
     within other (inl board) = omega (arith, board, most)
     within other (inr at) = absurd (omega (arith, at.1.1))
 
+-- where one begins some phase has begun
+pub phase-begins : (history : List Entry) (entry : Entry) → begins_cycle entry ≡ true → 1 ≤ phase (history ++ entry ∷ [])
+phase-begins history (entries.Advance p) begins = omega (arith, total-more (λ e. e.phases) history (entries.Advance p))
+phase-begins history _ begins = absurd (cc begins)
+
 -- a cycle begins with the entry
-pub BegunTells-begin : (heap : Heap) (history : List Entry) (entry : Entry) (g : Graph) (begun : BegunCycle) → begins_cycle entry ≡ true → g ≡ graph_of heap (history ++ entry ∷ []) → HasReach g begun.reach
+pub BegunTells-begin : (heap : Heap) (history : List Entry) (entry : Entry) (begun : BegunCycle) → begins_cycle entry ≡ true → HasReach (graph_of heap (up_to_cycle (history ++ entry ∷ []))) begun.reach
     → begun.reserves ≡ unborn_at_replies heap (history ++ entry ∷ []) → begun.since ≡ taken_since_replies heap (history ++ entry ∷ [])
     → (most : ℕ) → begun.most_reach ≡ max most begun.reach → IsGreatest (IsReached heap history) most → BegunTells heap begun (history ++ entry ∷ [])
-BegunTells-begin heap history entry g begun begins graph reach reserves since most is greatest =
+BegunTells-begin heap history entry begun begins reach reserves since most is greatest =
     let all : up_to_cycle (history ++ entry ∷ []) ≡ history ++ entry ∷ [] = up_to_last-yes begins_cycle history entry begins in
-    let here : HasReach (graph_of heap (history ++ entry ∷ [])) begun.reach = subst (λ h. HasReach h begun.reach) graph reach in
+    let here : HasReach (graph_of heap (history ++ entry ∷ [])) begun.reach = subst (λ es. HasReach (graph_of heap es) begun.reach) all reach in
     record {
-      reach = subst (λ es. HasReach (graph_of heap es) begun.reach) (sym all) here;
+      reach = reach;
       reserves = reserves ∙ ap (unborn_at_replies heap) (sym all);
       since = since ∙ sym (cycle_takes-begin heap history entry begins);
       most_reach = subst (IsGreatest (IsReached heap (history ++ entry ∷ []))) (sym is)

@@ -26,7 +26,8 @@ use Rattle.heap_model.proofs.graph_lemmas.Heads.{contains_cases, contains_head}
 use Rattle.heap_model.proofs.account_lemmas.Windows.{sum_of_window_sections, window_sections_make_whole}
 use Rattle.reply_text.specs.write.Counts.{is_end}
 use Rattle.space_plan.specs.declared.report.CyclePlan.{CyclePlan}
-use Rattle.space_plan.specs.plan.Cycles.{HasReach, IsCyclePlan, cycle_takes}
+use Rattle.heap_model.specs.graph.Sizes.{HasReach}
+use Rattle.space_plan.specs.plan.Cycles.{IsCyclePlan, cycle_takes}
 use Rattle.space_plan.specs.plan.Moments.{Moment, begins_of, ends_of}
 use Rattle.space_plan.specs.plan.Takes.{IsTaken, taken_since_end}
 use Rattle.space_plan.specs.plan.Totals.{IsGreatest, IsNeeded, IsReached, groups_for, is_full, need_told}

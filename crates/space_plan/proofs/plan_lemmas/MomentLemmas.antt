@@ -15,7 +15,7 @@ use Rattle.heap_model.specs.graph.Sizes.{fragments_of_all}
 use Rattle.heap_model.proofs.graph_lemmas.Heads.{contains_head}
 use Rattle.heap_model.proofs.graph_lemmas.Among.{ordered_same_ids_equal}
 use Rattle.reply_text.specs.write.Counts.{is_end}
-use Rattle.space_plan.specs.plan.Cycles.{HasReach}
+use Rattle.heap_model.specs.graph.Sizes.{HasReach}
 use Rattle.space_plan.specs.plan.Moments.{Moment, moments_behind, moments_of, begins_of, ends_of}
 use Rattle.space_plan.specs.plan.Totals.{IsReached}
 

@@ -1,23 +1,18 @@
--- At most as many ids are reached as there are objects, of which each entry makes at most one.
-use Rattle.std.proofs.Common.{◌≡◌, ℕ, zero, suc, ◌+◌, ◌<◌, ◌≤◌, List, [], ◌∷◌, inl, inr, length, get_or, map, replicate, set, slice_get, is_some, AllPairs, Contains, refl, ap, ◌∙◌, arith}
+-- At most as many ids are reached as there are objects.
+use Rattle.std.proofs.Common.{◌≡◌, ℕ, zero, suc, ◌+◌, ◌<◌, ◌≤◌, List, [], ◌∷◌, inl, inr, length, get_or, map, replicate, slice_get, is_some, AllPairs, Contains, refl, ap, ◌∙◌, arith}
 use Rattle.std.specs.Prelude.{sum, IsSome}
 use Rattle.std.proofs.Math.ListN.{get_or-map}
-use Rattle.std.proofs.lemmas.Bool.{cases_lt, cases_Bool, cond-true, cond-false}
-use Rattle.std.proofs.lemmas.List.{set_past}
+use Rattle.std.proofs.lemmas.Bool.{cases_lt}
 use Rattle.std.proofs.lemmas.List.Elements.{Contains-get_or}
-use Rattle.std.proofs.lemmas.List.Sums.{sum_by-cons, sum_by-set}
+use Rattle.std.proofs.lemmas.List.Sums.{sum_by-cons}
 use Rattle.std.proofs.lemmas.Option.{slice_get_past}
-use Rattle.heap_model.specs.declared.entry.Entry.{Entry}
-use Rattle.heap_model.specs.declared.entry.Entry.TheVariants as entries
 use Rattle.heap_model.specs.declared.heap.Heap.{Heap}
 use Rattle.heap_model.specs.declared.id.Id.{Id}
 use Rattle.heap_model.specs.declared.id.Id.TheVariants.{Board, Made}
 use Rattle.heap_model.specs.graph.Graph.{GraphSeat, Graph, opening, opening_graph_seat}
-use Rattle.heap_model.specs.graph.Growth.{after_entry, counts_after, makes}
 use Rattle.heap_model.specs.graph.Objects.{absent_graph_seat, graph_seat, made_counts}
 use Rattle.heap_model.specs.graph.Reach.{IsBefore, IsMade, IsReach, Reaches, from_register, from_cell}
 use Rattle.heap_model.proofs.graph_lemmas.Heads.{contains_head, contains_tail, pairs_head, pairs_tail}
-use Rattle.heap_model.proofs.graph_lemmas.MadeLemmas.{made_counts-after}
 
 -- how many objects the seats before this one made
 abbrev made_before : List ℕ → ℕ → ℕ
@@ -82,23 +77,6 @@ reach_is_short g ids reach =
     (λ i j d lt within. place-rises g (get_or ids i d) (get_or ids j d) (made (get_or ids i d) (Contains-get_or ids i d (omega (arith, lt, within)))) (reach.ordered i j d lt within))
     (λ id held. (omega arith, place-within g id (made id held))) (omega arith) in
     omega (arith, few)
-
-one_more : (counts : List ℕ) (number : ℕ) → sum (set counts number (get_or counts number 0 + 1)) ≤ sum counts + 1
-one_more counts number = elim (cases_lt number (length counts)) [
-  | inl within ↦ omega (arith, sum_by-set (λ (n : ℕ). n) counts number (get_or counts number 0 + 1) 0 within)
-  | inr past ↦ omega (arith, ap sum (set_past counts number (get_or counts number 0 + 1) past))
-]
-
-counts_more : (counts : List ℕ) (entry : Entry) → sum (counts_after counts entry) ≤ sum counts + 1
-counts_more counts (entries.Said number command reply) = elim (cases_Bool (makes (entries.Said number command reply))) [
-  | inl makes_one ↦ omega (arith, ap sum (cond-true _ (set counts number (get_or counts number 0 + 1)) counts makes_one), one_more counts number)
-  | inr none ↦ omega (arith, ap sum (cond-false _ (set counts number (get_or counts number 0 + 1)) counts none))
-]
-counts_more counts entry = omega arith
-
--- each entry makes at most one object
-pub made-more : (g : Graph) (entry : Entry) → sum (made_counts (after_entry g entry)) ≤ sum (made_counts g) + 1
-made-more g entry = omega (arith, ap sum (made_counts-after g entry), counts_more (made_counts g) entry)
 
 none_made : (count : ℕ) → sum (map (λ (seat : GraphSeat). length seat.objects) (replicate count opening_graph_seat)) ≡ 0
 none_made zero = refl

@@ -4,21 +4,12 @@ use Rattle.std.specs.List.{range_with_len}
 use Rattle.heap_model.specs.declared.entry.Entry.{Entry}
 use Rattle.heap_model.specs.declared.entry.Entry.TheVariants.{Ends}
 use Rattle.heap_model.specs.declared.heap.Heap.{Heap}
-use Rattle.heap_model.specs.declared.id.Id.{Id}
 use Rattle.heap_model.specs.account.Cycles.{graph_of, bound}
 use Rattle.heap_model.specs.account.Space.{total, taken_of, fragments_used}
 use Rattle.heap_model.specs.account.Windows.{since_reply, up_to_cycle, since_cycle}
-use Rattle.heap_model.specs.graph.Graph.{Graph}
-use Rattle.heap_model.specs.graph.Reach.{IsReach}
-use Rattle.heap_model.specs.graph.Sizes.{fragments_of_all}
+use Rattle.heap_model.specs.graph.Sizes.{HasReach}
 use Rattle.space_plan.specs.declared.report.CyclePlan.{CyclePlan}
 use Rattle.space_plan.specs.plan.Moments.{Moment}
-
--- what is reached in the graph has so many fragments
-pub record HasReach (g : Graph) (fragments : ℕ) : Type 0 where
-  pub ids : List Id
-  pub reached : IsReach g ids
-  pub counted : fragments ≡ fragments_of_all g ids
 
 -- what the seats took, each since its last reply
 abbrev pub taken_since_replies : Heap → List Entry → ℕ

@@ -9,7 +9,7 @@ use Rattle.heap_model.specs.declared.entry.Entry.TheVariants.{Said}
 use Rattle.heap_model.specs.declared.heap.Heap.{Heap}
 use Rattle.heap_model.specs.declared.reply.Reply.TheVariants.{Full}
 use Rattle.heap_model.specs.account.Cycles.{graph_of}
-use Rattle.space_plan.specs.plan.Cycles.{HasReach}
+use Rattle.heap_model.specs.graph.Sizes.{HasReach}
 use Rattle.space_plan.specs.plan.Moments.{Moment, through, begins_of}
 
 -- the number is the greatest of those of which this holds

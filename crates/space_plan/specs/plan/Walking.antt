@@ -1,9 +1,9 @@
 -- What is kept of the entries that were gone over.
-use Rattle.std.specs.Prelude.{◌≡◌, ℕ, ◌+◌, ◌*◌, ◌≤◌, ◌^◌, List, sum}
+use Rattle.std.specs.Prelude.{◌≡◌, ℕ, ◌+◌, ◌*◌, ◌≤◌, ◌^◌, List}
 use Rattle.std.specs.List.{AllZip}
 use Rattle.heap_model.specs.declared.entry.Entry.{Entry}
 use Rattle.heap_model.specs.declared.heap.Heap.{Heap}
-use Rattle.heap_model.specs.graph.Objects.{made_counts}
+use Rattle.heap_model.specs.account.Books.{Tells}
 use Rattle.heap_model.specs.account.Cycles.{graph_of}
 use Rattle.heap_model.specs.account.Space.{fragments_gained, fragments_lost}
 use Rattle.heap_model.specs.account.Windows.{up_to_cycle}
@@ -11,7 +11,8 @@ use Rattle.space_plan.specs.declared.planning.ledger.Ledger.{Ledger}
 use Rattle.space_plan.specs.declared.planning.begun.BegunCycle.{BegunCycle}
 use Rattle.space_plan.specs.declared.planning.ended.EndedCycles.{EndedCycles}
 use Rattle.space_plan.specs.declared.planning.walk.Walk.{Walk}
-use Rattle.space_plan.specs.plan.Cycles.{HasReach, IsCyclePlan, cycle_takes}
+use Rattle.heap_model.specs.graph.Sizes.{HasReach}
+use Rattle.space_plan.specs.plan.Cycles.{IsCyclePlan, cycle_takes}
 use Rattle.space_plan.specs.plan.Moments.{Moment, ends_of}
 use Rattle.space_plan.specs.plan.Seats.{SeatsFit, SeatsTell, unborn_at_replies}
 use Rattle.space_plan.specs.plan.Takes.{IsTakenAtAny, taken_since_end}
@@ -53,13 +54,15 @@ pub record EndedTells (heap : Heap) (ended : EndedCycles) (ends : List Moment) :
 -- the walk has gone over this history
 pub record Passed (walk : Walk) (history : List Entry) : Type 0 where
   pub graph : walk.graph ≡ graph_of walk.ledger.heap history
+  pub of_heap : walk.account.heap ≡ walk.ledger.heap
+  pub account : Tells walk.account history
   pub ledger : LedgerTells walk.ledger.heap walk.ledger history
   pub begun : BegunTells walk.ledger.heap walk.begun history
   pub ended : EndedTells walk.ledger.heap walk.ended (ends_of history)
 
 -- its numbers are small enough for so many entries
 pub record WalkFits (entries : ℕ) (walk : Walk) : Type 0 where
-  pub made : sum (made_counts walk.graph) ≤ entries
+  pub counted : walk.account.entries ≤ entries
   pub ledger : LedgerFits entries walk.ledger
   pub begun : BegunFits entries walk.begun
   pub most_taken : walk.ended.most_taken ≤ 2 ^ 36 * entries

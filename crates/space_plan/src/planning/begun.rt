@@ -1,15 +1,16 @@
 ghost use Rattle.std.specs.Prelude.{◌≡◌, ◌≤◌, ◌+◌, ◌*◌, ◌^◌, ◌++◌, ◌∷◌, [], ℕ, true, List, IfOk, OnOk, sum};
 ghost use Rattle.heap_model.specs.declared.entry.Entry.{Entry as AnEntry};
 ghost use Rattle.heap_model.specs.Heap.{IsHeap};
+ghost use Rattle.heap_model.specs.account.Books.{Tells};
 ghost use Rattle.heap_model.specs.account.Cycles.{graph_of};
 ghost use Rattle.heap_model.specs.account.Windows.{begins_cycle};
 ghost use Rattle.heap_model.specs.graph.Objects.{made_counts};
 ghost use Rattle.space_plan.specs.plan.Totals.{IsGreatest, IsReached};
 
 use crate::planning::ledger::Ledger;
-use crate::planning::reach::reached_frags;
+use crate::planning::reach::{reached_frags, reached_then};
 use heap_model::phase_plan::{BARRIERS, CYCLE_PHASES};
-use heap_model::{Effect, Entry, Graph, Memory};
+use heap_model::{Account, Effect, Entry, Graph, Memory};
 
 /// What is kept of the cycle that began last: the fragments that were reached then, those that the seats had after
 /// their last replies, and those taken since these replies; and the most that was reached at any begin.
@@ -52,20 +53,20 @@ impl BegunCycle {
         })
     }
 
-    /// A cycle that begins here, where so much was reached at most before.
-    fn begin(ledger: &Ledger, graph: &Graph, most_reach: u64) -> Result<BegunCycle, Memory>
+    /// A cycle that begins with the last entry, where so much was reached at most before.
+    fn begin(ledger: &Ledger, account: &Account, most_reach: u64) -> Result<BegunCycle, Memory>
         requires heap { IsHeap ledger.now.heap }
-        requires made { sum (made_counts graph.now) ≤ 2 ^ 22 }
+        requires counted { account.now.entries ≤ 2 ^ 22 }
         requires few { LedgerFits (2 ^ 22) ledger.now }
         ensures tells { (history : List AnEntry) (entry : AnEntry) → begins_cycle entry ≡ true →
             LedgerTells ledger.now.heap ledger.now (history ++ entry ∷ []) →
-            graph.now ≡ graph_of ledger.now.heap (history ++ entry ∷ []) →
+            account.now.heap ≡ ledger.now.heap → Tells account.now (history ++ entry ∷ []) →
             IsGreatest (IsReached ledger.now.heap history) most_reach →
             IfOk result (λ begun. BegunTells ledger.now.heap begun (history ++ entry ∷ [])) }
-        ensures fits { (n : ℕ) → sum (made_counts graph.now) ≤ n → LedgerFits n ledger.now →
+        ensures fits { (n : ℕ) → account.now.entries ≤ n → LedgerFits n ledger.now →
             most_reach ≤ 2 ^ 32 * (n + 1) → IfOk result (BegunFits n) }
     {
-        let reach = reached_frags(graph)?;
+        let reach = reached_then(account)?;
         let sums = ledger.seats.sums(ledger.heap.seats);
         Ok(BegunCycle {
             reach,
@@ -75,21 +76,21 @@ impl BegunCycle {
         })
     }
 
-    /// Goes over the entry, after which the ledger and the graph are these.
-    pub fn pass(&mut self, ledger: &Ledger, graph: &Graph, entry: &Entry) -> Result<(), Memory>
+    /// Goes over the entry, after which the ledger and the account are these.
+    pub fn pass(&mut self, ledger: &Ledger, account: &Account, entry: &Entry) -> Result<(), Memory>
         requires heap { IsHeap ledger.now.heap }
-        requires made { sum (made_counts graph.now) ≤ 2 ^ 22 }
+        requires counted { account.now.entries ≤ 2 ^ 22 }
         requires few { LedgerFits (2 ^ 22) ledger.now }
         requires few_begun { BegunFits (2 ^ 22) self.old }
         ensures tells { (history : List AnEntry) → BegunTells ledger.now.heap self.old history →
             LedgerTells ledger.now.heap ledger.now (history ++ entry.now ∷ []) →
-            graph.now ≡ graph_of ledger.now.heap (history ++ entry.now ∷ []) →
+            account.now.heap ≡ ledger.now.heap → Tells account.now (history ++ entry.now ∷ []) →
             OnOk result (BegunTells ledger.now.heap self.new (history ++ entry.now ∷ [])) }
-        ensures fits { (n : ℕ) → sum (made_counts graph.now) ≤ n + 1 → LedgerFits (n + 1) ledger.now →
+        ensures fits { (n : ℕ) → account.now.entries ≤ n + 1 → LedgerFits (n + 1) ledger.now →
             BegunFits n self.old → OnOk result (BegunFits (n + 1) self.new) }
     {
         if begins_cycle(entry) {
-            *self = BegunCycle::begin(ledger, graph, self.most_reach)?;
+            *self = BegunCycle::begin(ledger, account, self.most_reach)?;
         } else {
             self.since += Effect::of(entry).taken;
         }

@@ -5,6 +5,7 @@ use Rattle.core_rule.proofs.Terms.{MayBegin, Begins, state_after, register_in, S
 use Rattle.core_machine.specs.declared.point.Point.TheVariants as points
 use Rattle.core_rule.proofs.spines.NoPlaces.{same_range_away}
 use Rattle.core_rule.proofs.roots.CallRoots.{IsReachedNow, roots_hold_at_begin}
+use Rattle.core_rule.proofs.graph.SeenStamps.{stamps_stay}
 use Rattle.core_rule.proofs.steps.Assemble.{Keeps, keeps_rule_after_begin}
 use Rattle.core_rule.proofs.entries.AtRest.{seat_fits, point_awaits_none}
 use Rattle.core_rule.proofs.entries.Begins.{begins, began_at_begin}
@@ -14,7 +15,7 @@ use Rattle.core_rule.proofs.entries.OwnEntries.{counts_agree_without_entry}
 use Rattle.core_rule.proofs.entries.SeatLists.{own_list_is_all_told}
 use Rattle.core_rule.proofs.budgets.NoneMade.{MakesNone, no_place_where_none_made, none_granted, none_placed, none_refused}
 use Rattle.core_rule.proofs.spines.SpineFrames.{spine_in_hand_away}
-use Rattle.core_rule.proofs.entries.Starting.{bare_is_spineless, Starts, other_call_starts}
+use Rattle.core_rule.proofs.entries.Starting.{fresh_is_unnamed, bare_is_spineless, Starts, other_call_starts}
 
 -- the begin of any call but a new record's keeps the rule
 pub begin_others_keep : (heap : Heap) (state : State) (book : Book) (number : ℕ) (command : Command) → Rule heap state book → number < heap.seats
@@ -49,7 +50,8 @@ begin_others_keep heap state book number command rule here may other machine =
           own = append-nil next.mine ∙ same.mine ∙ own_list_is_all_told stands.told.list (rw may.idle at stands.told.list.awaits);
           awaits = start.awaits;
         };
-        counts = counts_agree_without_entry g book.history number old next same.made same.sets same.left (rw (own.reserve, own.hand, own.body) refl) stands.told.counts;
+        counts = counts_agree_without_entry g book.history number old next same.made same.sets
+            (stamps_stay old next points.Idle next.point may.idle refl tt (fresh_is_unnamed next.point start.fresh) same.seen) same.left (rw (own.reserve, own.hand, own.body) refl) stands.told.counts;
         began = began_at_begin heap state.words book number next.point;
         gathers = gathers_right_unbegun heap book.owner number (drop (begins number (length book.history) book.begun number) book.history) next.cursor next.tried next.given (own.tried ∙ rest.none_tried) (own.given ∙ rest.none_given);
         used = bare.none_used heap book.history;

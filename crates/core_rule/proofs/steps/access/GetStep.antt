@@ -1,5 +1,5 @@
 -- Loading a field keeps the rule.
-use Rattle.std.proofs.Common.{◌≡◌, ℕ, ◌<◌, false, List, [], ◌∷◌, length, get_or, slice_get, slice_set, slice_index_or, Option, Some, None, refl, sym, ap, ◌∙◌, subst, arith}
+use Rattle.std.proofs.Common.{◌≡◌, ℕ, ◌^◌, ◌<◌, false, List, [], ◌∷◌, length, get_or, slice_get, slice_set, slice_index_or, Option, Some, None, refl, sym, ap, ◌∙◌, subst, arith}
 use Rattle.std.proofs.lemmas.Bool.{eq-eqb}
 use Rattle.std.proofs.lemmas.Option.{slice_get-get_or}
 use Rattle.heap_model.specs.declared.graph.cell.Cell.{Cell}
@@ -30,6 +30,7 @@ use Rattle.core_rule.proofs.graph.Numbering.{id_at_own_number}
 use Rattle.core_rule.proofs.graph.ObjectReplies.{accepts_got, graph_after_got, keeps_space_of_got, target_within_registers}
 use Rattle.core_rule.proofs.entries.OwnEntries.{own_entries_grow}
 use Rattle.core_rule.proofs.entries.PhaseEntries.{reply_is_no_leave}
+use Rattle.core_rule.proofs.graph.SeenStamps.{seen_after_put}
 use Rattle.core_rule.proofs.graph.PutRegister.{holds_value_after_put}
 use Rattle.heap_model.proofs.graph_changes.PutRegister.{put_changes_only_registers, put_register_holds_value, other_registers_stay_by_put}
 use Rattle.core_rule.proofs.entries.SeatLists.{own_list_after_entry}
@@ -53,30 +54,31 @@ module _ (heap : Heap) (state : State) (book : Book) (number : ℕ) (rule : Rule
   in_seat = omega (arith, (seat_fits rule number here).own.registers_whole, target_within_registers (seat_at state number).command a_get ranges)
 
   -- a number or nil stands in the register
-  filled_keeps : (new : Register) (stamp : ℕ) → register_head new ≡ None → HoldsValue book.made book.owner book.fragments new (value_of new)
+  filled_keeps : (new : Register) (stamp : ℕ) → stamp < 2 ^ 32 → register_head new ≡ None → HoldsValue book.made book.owner book.fragments new (value_of new)
       → Accepts (graph_of heap book.history) (Said number (seat_at state number).command (Got (value_of new) stamp))
       → IsMachine heap (loaded_state heap state number (Word (seat_at state number).reached (seat_at state number).part)
-      (went (seat_at state number) (slice_set (seat_at state number).registers (target_of (seat_at state number).command) new) 0 0 0 no_spot 0 points.Idle (forgotten (seat_at state number).looks) (reply_entries number (seat_at state number) (Got (value_of new) stamp))))
+      (went (seat_at state number) (slice_set (seat_at state number).registers (target_of (seat_at state number).command) new) (slice_set (seat_at state number).seen (target_of (seat_at state number).command) stamp) 0 0 0 no_spot 0 points.Idle (forgotten (seat_at state number).looks) (reply_entries number (seat_at state number) (Got (value_of new) stamp))))
       → Keeps heap state (loaded_state heap state number (Word (seat_at state number).reached (seat_at state number).part)
-      (went (seat_at state number) (slice_set (seat_at state number).registers (target_of (seat_at state number).command) new) 0 0 0 no_spot 0 points.Idle (forgotten (seat_at state number).looks) (reply_entries number (seat_at state number) (Got (value_of new) stamp))))
+      (went (seat_at state number) (slice_set (seat_at state number).registers (target_of (seat_at state number).command) new) (slice_set (seat_at state number).seen (target_of (seat_at state number).command) stamp) 0 0 0 no_spot 0 points.Idle (forgotten (seat_at state number).looks) (reply_entries number (seat_at state number) (Got (value_of new) stamp))))
       book book.begun (reply_entries number (seat_at state number) (Got (value_of new) stamp))
-  filled_keeps new stamp none holds accepts machine =
+  filled_keeps new stamp small none holds accepts machine =
       let seat : Seat = seat_at state number in
       let g : Graph = graph_of heap book.history in
       let stands = rule.seats_stand number here in
       let reply : Reply = Got (value_of new) stamp in
       let entry : Entry = Said number seat.command reply in
       let cell : Cell = record { value = value_of new; stamp = stamp } in
-      keeps_rule_by_telling_load heap state book number rule here (Word seat.reached seat.part) (slice_set seat.registers (target_of seat.command) new) 0 0 0 no_spot 0 points.Idle (forgotten (seat_at state number).looks) (entry ∷ []) machine
+      keeps_rule_by_telling_load heap state book number rule here (Word seat.reached seat.part) (slice_set seat.registers (target_of seat.command) new) (slice_set seat.seen (target_of seat.command) stamp) 0 0 0 no_spot 0 points.Idle (forgotten (seat_at state number).looks) (entry ∷ []) machine
       seat.command reply refl (with_register g number (target_of seat.command) cell) (graph_after_got g number (value_of new) stamp seat.command a_get)
       (put_changes_only_registers g number (target_of seat.command) cell present) (rw point tt) tt accepts
       (keeps_space_of_got heap false book.history number (spent_within_taken heap state book number rule here (way_seat_is_at_rest heap state book number rule here Getting point)) (taken_is_few_unspent heap state book number rule here (way_seat_is_at_rest heap state book number rule here Getting point)) (value_of new) stamp seat.command a_get)
+      (seen_after_put g number seat.seen (rw point at stands.told.counts.seen) (target_of seat.command) cell present small)
       (λ r unawaited. holds_value_after_put book.made book.owner book.fragments g number (target_of seat.command) cell seat.registers new present in_seat in_graph holds (λ x apart. held x) r)
       (own_list_after_entry g book.made book.owner book.fragments number seat book.history (subst IsAnswered point) stands.told.list (with_register g number (target_of seat.command) cell) _ _ (entry ∷ []) [] (entry ∷ []) refl refl
       (own_entries_grow number book.history entry (eq-eqb number number refl)) refl)
       tt tt tt (reply_is_no_leave number number seat.command reply (λ leaves. subst IsGet leaves a_get))
-      (seat_in_cycle_after_load heap state book number rule here (Word seat.reached seat.part) (slice_set seat.registers (target_of seat.command) new) 0 0 0 no_spot 0 points.Idle (forgotten (seat_at state number).looks) (entry ∷ []) machine tt)
-      (λ marks roots. roots_hold_when_over (IsReachedNow heap state book) (went seat (slice_set seat.registers (target_of seat.command) new) 0 0 0 no_spot 0 points.Idle (forgotten (seat_at state number).looks) (entry ∷ [])) tt
+      (seat_in_cycle_after_load heap state book number rule here (Word seat.reached seat.part) (slice_set seat.registers (target_of seat.command) new) (slice_set seat.seen (target_of seat.command) stamp) 0 0 0 no_spot 0 points.Idle (forgotten (seat_at state number).looks) (entry ∷ []) machine tt)
+      (λ marks roots. roots_hold_when_over (IsReachedNow heap state book) (went seat (slice_set seat.registers (target_of seat.command) new) (slice_set seat.seen (target_of seat.command) stamp) 0 0 0 no_spot 0 points.Idle (forgotten (seat_at state number).looks) (entry ∷ [])) tt
       (heads_hold_after_put (IsReachedNow heap state book) seat.registers (target_of seat.command) new in_seat (if_some_of_none (IsReachedNow heap state book) (register_head new) none) roots.registers))
 
   -- a reference awaits its object's name, and the history has the reply
@@ -84,9 +86,9 @@ module _ (heap : Heap) (state : State) (book : Book) (number : ℕ) (rule : Rule
       → (IsInMarking state.collector → IsReachedNow heap state book (seat_at state number).reached → IsReachedNow heap state book (object_head book.made book.fragments id))
       → Accepts (graph_of heap book.history) (Said number (seat_at state number).command (Got (values.Object id) (stamp_of found)))
       → IsMachine heap (loaded_state heap state number (Word (seat_at state number).reached (seat_at state number).part)
-      (went (seat_at state number) (seat_at state number).registers (seat_at state number).reached (seat_at state number).links (seat_at state number).part (seat_at state number).address found (points.Access Naming) (seat_at state number).looks []))
+      (went (seat_at state number) (seat_at state number).registers (seat_at state number).seen (seat_at state number).reached (seat_at state number).links (seat_at state number).part (seat_at state number).address found (points.Access Naming) (seat_at state number).looks []))
       → Keeps heap state (loaded_state heap state number (Word (seat_at state number).reached (seat_at state number).part)
-      (went (seat_at state number) (seat_at state number).registers (seat_at state number).reached (seat_at state number).links (seat_at state number).part (seat_at state number).address found (points.Access Naming) (seat_at state number).looks []))
+      (went (seat_at state number) (seat_at state number).registers (seat_at state number).seen (seat_at state number).reached (seat_at state number).links (seat_at state number).part (seat_at state number).address found (points.Access Naming) (seat_at state number).looks []))
       book book.begun (reply_entries number (seat_at state number) (Got (values.Object id) (stamp_of found)))
   pending_keeps found id kept loads comes accepts machine =
       let seat : Seat = seat_at state number in
@@ -97,16 +99,17 @@ module _ (heap : Heap) (state : State) (book : Book) (number : ℕ) (rule : Rule
       let reply : Reply = Got value (stamp_of found) in
       let entry : Entry = Said number seat.command reply in
       let cell : Cell = record { value = value; stamp = stamp_of found } in
-      keeps_rule_by_telling_load heap state book number rule here (Word seat.reached seat.part) seat.registers seat.reached seat.links seat.part seat.address found (points.Access Naming) (seat_at state number).looks [] machine
+      keeps_rule_by_telling_load heap state book number rule here (Word seat.reached seat.part) seat.registers seat.seen seat.reached seat.links seat.part seat.address found (points.Access Naming) (seat_at state number).looks [] machine
       seat.command reply refl (with_register g number d cell) (graph_after_got g number value (stamp_of found) seat.command a_get) (put_changes_only_registers g number d cell present) (rw point tt) tt accepts
       (keeps_space_of_got heap false book.history number (spent_within_taken heap state book number rule here (way_seat_is_at_rest heap state book number rule here Getting point)) (taken_is_few_unspent heap state book number rule here (way_seat_is_at_rest heap state book number rule here Getting point)) value (stamp_of found) seat.command a_get)
+      (seen_after_put g number seat.seen (rw point at stands.told.counts.seen) d cell present (omega arith))
       (λ r unawaited. subst (λ x. HoldsValue book.made book.owner book.fragments (slice_index_or seat.registers r registers.Nil) x) (sym (other_registers_stay_by_put g number d cell present r unawaited)) (held r))
       (own_list_after_entry g book.made book.owner book.fragments number seat book.history (subst IsAnswered point) stands.told.list (with_register g number d cell) _ _ [] (entry ∷ []) (entry ∷ []) refl refl
       (own_entries_grow number book.history entry (eq-eqb number number refl))
       (record { id = id; kept = kept; loads = loads; held = put_register_holds_value g number d cell present in_graph; told = refl }))
       tt tt tt (reply_is_no_leave number number seat.command reply (λ leaves. subst IsGet leaves a_get))
-      (seat_in_cycle_after_load heap state book number rule here (Word seat.reached seat.part) seat.registers seat.reached seat.links seat.part seat.address found (points.Access Naming) (seat_at state number).looks [] machine tt)
-      (λ marks roots. roots_hold_on_way (IsReachedNow heap state book) seat (went seat seat.registers seat.reached seat.links seat.part seat.address found (points.Access Naming) (seat_at state number).looks []) Naming refl refl
+      (seat_in_cycle_after_load heap state book number rule here (Word seat.reached seat.part) seat.registers seat.seen seat.reached seat.links seat.part seat.address found (points.Access Naming) (seat_at state number).looks [] machine tt)
+      (λ marks roots. roots_hold_on_way (IsReachedNow heap state book) seat (went seat seat.registers seat.seen seat.reached seat.links seat.part seat.address found (points.Access Naming) (seat_at state number).looks []) Naming refl refl
       (if_some_of_the_one (IsReachedNow heap state book) (head_of found) (object_head book.made book.fragments id) loads (comes marks (roots_hold_at_call (IsReachedNow heap state book) seat Getting point roots))) roots)
 
 -- loading a field keeps the rule
@@ -143,9 +146,9 @@ get_keeps heap state book number rule here point machine =
     gets.1 cell there) in
     let goal = λ (o : Option ℕ). IsMachine heap (loaded_state heap state number (Word seat.reached seat.part) (with_entries (after_get seat found o) (got_adds number seat found o)))
     → Keeps heap state (loaded_state heap state number (Word seat.reached seat.part) (with_entries (after_get seat found o) (got_adds number seat found o))) book book.begun (got_shows heap number seat words found o) in
-    let filled = filled_keeps heap state book number rule here point gets.1 gets.0.in_range (plain_of found) (stamp_of found) in
+    let filled = filled_keeps heap state book number rule here point gets.1 gets.0.in_range (plain_of found) (stamp_of found) (omega arith) in
     let told : List Entry = reply_entries number seat (Got (value_of (plain_of found)) (stamp_of found)) in
-    let ends = keeps_rule_by_forgetting_load heap state book number (Word seat.reached seat.part) (slice_set seat.registers (target_of seat.command) (plain_of found)) told told
+    let ends = keeps_rule_by_forgetting_load heap state book number (Word seat.reached seat.part) (slice_set seat.registers (target_of seat.command) (plain_of found)) (slice_set seat.seen (target_of seat.command) (stamp_of found)) told told
     (rw point at (seat_fits rule number here).at_point) (rw point at (seat_fits rule number here).answer_at_point) in
     let by_value : (value : Value) → cell.value ≡ value → goal (named_head head value) = λ value. elim value as (λ v. cell.value ≡ v → goal (named_head head v)) [
       | values.Nil ↦ λ e. let is : plain_of found ≡ registers.Nil = plain ∙ ap register_plain e in

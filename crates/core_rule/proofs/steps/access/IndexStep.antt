@@ -1,6 +1,6 @@
 -- Loading the spine word that names a cell's fragment keeps the rule.
 use Rattle.std.proofs.Common.{ℕ, ◌/◌, [], ◌++◌, refl, sym, subst, ◌+◌}
-use Rattle.core_rule.proofs.Terms.{graph_of, Graph, Indexing, has_barrier_of, field_point_of, after_index, at_payload, field_of, Seat, seat_at, payload_in, at, spine_place}
+use Rattle.core_rule.proofs.Terms.{graph_of, Graph, Indexing, field_point_of, after_index, at_payload, field_of, Seat, seat_at, payload_in, at, spine_place}
 use Rattle.core_rule.proofs.Terms.{ReadsSpine, Awaits, node_at, Finds, Locates, AccessStands}
 use Rattle.core_machine.specs.declared.point.Access.{Access}
 use Rattle.core_machine.specs.declared.point.Point.TheVariants as points
@@ -39,15 +39,15 @@ index_keeps heap state book number rule here point machine =
     let unloaded = old_kept_where_none book.made book.owner book.fragments new (rw fits.none_loaded refl) in
     let within = field_word_within_spine heap state.words g book.made book.owner book.fragments rule.machine.limits stands.control_words stands.ids stands.objects seat locates in
     keeps_rule_by_way_load heap state book number rule here Indexing point (λ answered. answered) (λ d r awaited. awaited) (spine_place seat.address k) found seat.links seat.part seat.address to
-    (field_point_cases (λ to. Awaits g book.made book.owner book.fragments number new (points.Access to) []) seat seat.command refl (λ on. refl) (λ off. refl))
-    (field_point_cases (λ to. AccessStands (node_at g book.made) book.made book.owner book.fragments new to) seat seat.command finds (λ on. finds) (λ off. (finds, unloaded)))
-    (field_point_cases (λ to. AddressAt heap state.words book new (points.Access to)) seat seat.command reads (λ on. reads) (λ off. reads))
-    (field_point_cases (λ to. IsUnwatched (has_barrier_of seat) to) seat seat.command tt (λ on. tt) (λ off. off))
+    (field_point_cases (λ to. Awaits g book.made book.owner book.fragments number new (points.Access to) []) seat seat.command refl (λ on. refl) (λ off. refl) (λ on some. refl) (λ on none some. refl) (λ none. refl))
+    (field_point_cases (λ to. AccessStands (node_at g book.made) book.made book.owner book.fragments new to) seat seat.command finds (λ on. finds) (λ off. (finds, unloaded)) (λ on some. finds) (λ on none some. finds) (λ none. finds))
+    (field_point_cases (λ to. AddressAt heap state.words book new (points.Access to)) seat seat.command reads (λ on. reads) (λ off. reads) (λ on some. reads) (λ on none some. reads) (λ none. reads))
+    (field_point_cases (λ to. IsUnwatched new to) seat seat.command tt (λ on. tt) (λ off. off) (λ on some. tt) (λ on none some. none) (λ none. none))
     (λ marks roots.
     let comes : IsReachedNow heap state book found
     = subst (IsReachedNow heap state book) (sym (located_word_is_payload heap state.words g book.made book.owner book.fragments rule.machine.limits stands.control_words stands.ids stands.objects seat locates its))
     (payload_is_reached heap state book number rule here marks (roots_hold_at_call (IsReachedNow heap state book) seat Indexing point roots) index k way.below way.kept way.here locates.an_array within) in
-    field_point_cases (λ to. AtCall (IsReachedNow heap state book) new to) seat seat.command comes (λ on. comes) (λ off. comes))
+    field_point_cases (λ to. AtCall (IsReachedNow heap state book) new to) seat seat.command comes (λ on. comes) (λ off. comes) (λ on some. comes) (λ on none some. comes) (λ none. comes))
     machine
 
 -- all that is asked of it

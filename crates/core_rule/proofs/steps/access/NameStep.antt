@@ -48,8 +48,8 @@ name_keeps heap state book number rule here point machine =
     let within : d < length seat.registers = omega (arith, (seat_fits rule number here).own.registers_whole, target_within_registers seat.command gets.1 gets.0.in_range) in
     let added : List Entry = reply_entries number seat (Got (values.Object (id_of found)) (stamp_of seat.loaded)) in
     let told : stands.told.list.awaited ≡ added = awaits.told ∙ ap (λ x. reply_entries number seat (Got (values.Object x) (stamp_of seat.loaded))) (sym name) in
-    keeps_rule_by_forgetting_load heap state book number (Word at_name 1) (slice_set seat.registers d (registers.Object at_name (id_of found))) added [] (rw point at (seat_fits rule number here).at_point) (rw point at (seat_fits rule number here).answer_at_point) (λ machine.
-    keeps_rule_by_silent_load heap state book number rule here (Word at_name 1) (slice_set seat.registers d (registers.Object at_name (id_of found))) 0 0 0 no_spot 0 points.Idle (forgotten seat.looks) added machine (rw point tt) tt
+    keeps_rule_by_forgetting_load heap state book number (Word at_name 1) (slice_set seat.registers d (registers.Object at_name (id_of found))) (slice_set seat.seen d (stamp_of seat.loaded)) added [] (rw point at (seat_fits rule number here).at_point) (rw point at (seat_fits rule number here).answer_at_point) (λ machine.
+    keeps_rule_by_silent_load heap state book number rule here (Word at_name 1) (slice_set seat.registers d (registers.Object at_name (id_of found))) (slice_set seat.seen d (stamp_of seat.loaded)) 0 0 0 no_spot 0 points.Idle (forgotten seat.looks) added machine (rw point tt) tt (rw point refl)
     (λ r unawaited. holds_value_after_set book.made book.owner book.fragments g number d seat.registers (registers.Object at_name (id_of found)) within holds before r)
     (record {
       awaited = [];
@@ -58,8 +58,8 @@ name_keeps heap state book number rule here point machine =
     })
     tt tt
     (record { earlier = stands.told.began.earlier; unanswered = λ busy. absurd (busy tt) })
-    (seat_in_cycle_after_load heap state book number rule here (Word at_name 1) (slice_set seat.registers d (registers.Object at_name (id_of found))) 0 0 0 no_spot 0 points.Idle (forgotten seat.looks) added machine tt)
-    (λ marks roots. roots_hold_when_over (IsReachedNow heap state book) (went seat (slice_set seat.registers d (registers.Object at_name (id_of found))) 0 0 0 no_spot 0 points.Idle (forgotten seat.looks) added) tt
+    (seat_in_cycle_after_load heap state book number rule here (Word at_name 1) (slice_set seat.registers d (registers.Object at_name (id_of found))) (slice_set seat.seen d (stamp_of seat.loaded)) 0 0 0 no_spot 0 points.Idle (forgotten seat.looks) added machine tt)
+    (λ marks roots. roots_hold_when_over (IsReachedNow heap state book) (went seat (slice_set seat.registers d (registers.Object at_name (id_of found))) (slice_set seat.seen d (stamp_of seat.loaded)) 0 0 0 no_spot 0 points.Idle (forgotten seat.looks) added) tt
     (heads_hold_after_put (IsReachedNow heap state book) seat.registers d (registers.Object at_name (id_of found)) within
     (subst (IsReachedNow heap state book) (sym head) (holds_of_some (IsReachedNow heap state book) (head_of seat.loaded) (object_head book.made book.fragments id) awaits.loads (roots_hold_at_call (IsReachedNow heap state book) seat Naming point roots)))
     roots.registers))) machine

@@ -33,13 +33,13 @@ old_keeps heap state book number rule here point machine =
     let reads : ReadsSpine heap state.words (node_at g book.made) book.owner book.fragments book.spines book.spine_owner seat = rw point at (rule.seats_stand number here).names.address in
     let at_next = λ (next : Access). finds_at_point (node_at g book.made) book.made book.owner book.fragments seat found next (seat.mine ++ []) finds in
     let leads : (x : ℕ) → WordPointsTo heap state.words seat.reached seat.part x → head_of found ≡ Some x = λ x leads. sym (plain_pointer_is_head seat.part found plain) ∙ word_pointer_of_lead heap state.words seat.reached seat.part x fits.0.2.part_within leads in
-    let unloaded = λ (next : Access). old_kept_where_none book.made book.owner book.fragments (went seat seat.registers seat.reached seat.links seat.part seat.address found (points.Access next) seat.looks []) in
+    let unloaded = λ (next : Access). old_kept_where_none book.made book.owner book.fragments (went seat seat.registers seat.seen seat.reached seat.links seat.part seat.address found (points.Access next) seat.looks []) in
     let reached = λ (marks : IsInMarking state.collector) (roots : OfRoots (IsReachedNow heap state book) seat). roots_hold_at_call (IsReachedNow heap state book) seat LoadingOld point roots in
     let goal = λ (o : Option ℕ). IsMachine heap (loaded_state heap state number (Word seat.reached seat.part) (with_entries (after_old_load (record seat { loaded = found }) o) []))
     → Keeps heap state (loaded_state heap state number (Word seat.reached seat.part) (with_entries (after_old_load (record seat { loaded = found }) o) [])) book book.begun [] in
     let by_head : (o : Option ℕ) → head_of found ≡ o → goal o = λ o. elim o as (λ x. head_of found ≡ x → goal x) [
-      | None ↦ λ none. new_point_cases (λ next. IsMachine heap (loaded_state heap state number (Word seat.reached seat.part) (went seat seat.registers seat.reached seat.links seat.part seat.address found (points.Access next) seat.looks []))
-          → Keeps heap state (loaded_state heap state number (Word seat.reached seat.part) (went seat seat.registers seat.reached seat.links seat.part seat.address found (points.Access next) seat.looks [])) book book.begun []) new_head
+      | None ↦ λ none. new_point_cases (λ next. IsMachine heap (loaded_state heap state number (Word seat.reached seat.part) (went seat seat.registers seat.seen seat.reached seat.links seat.part seat.address found (points.Access next) seat.looks []))
+          → Keeps heap state (loaded_state heap state number (Word seat.reached seat.part) (went seat seat.registers seat.seen seat.reached seat.links seat.part seat.address found (points.Access next) seat.looks [])) book book.begun []) new_head
           (λ no_new. on Swapping (λ s. refl) reads (at_next Swapping, unloaded Swapping none) (λ making x lead. absurd (cc (none, leads x lead)))
           (λ is_on. (if_some_of_none (IsMarked book.colour) (head_of found) none, if_some_of_none (IsMarked book.colour) new_head no_new)) reached)
           (λ f some. on ShadingNew (λ s. refl) reads (at_next ShadingNew, unloaded ShadingNew none) (λ making x lead. absurd (cc (none, leads x lead))) (if_some_of_none (IsMarked book.colour) (head_of found) none) reached)

@@ -1,8 +1,9 @@
 -- Going on by a fragment's first word keeps the rule.
-use Rattle.std.proofs.Common.{◌≡◌, ℕ, ◌-◌, ◌<◌, Bool, true, false, [], refl, subst, arith}
-use Rattle.core_rule.proofs.Terms.{Heap, graph_of, Graph, Word, Walking, at, link_of, State, seat_at, has_barrier_of, way_point_of, after_link, after_walk, Seat, with_entries}
+use Rattle.std.proofs.Common.{◌≡◌, ℕ, ◌-◌, ◌<◌, Bool, true, false, [], refl, sym, ap, ◌∙◌, arith}
+use Rattle.core_rule.proofs.Terms.{Side, side_register_of, register_head, Heap, graph_of, Graph, Word, Walking, at, link_of, State, seat_at, has_barrier_of, way_point_of, after_link, after_walk, Seat, with_entries}
 use Rattle.core_rule.proofs.Terms.{IsMachine, Book, Awaits, IsAnswered, node_at, IsAwaited, ReadsSpine, Rule, Finds}
 use Rattle.core_machine.specs.declared.point.Point.TheVariants as points
+use Rattle.core_machine.specs.declared.point.Side.TheVariants.{Expected, New}
 use Rattle.core_machine.specs.declared.point.Access.{Access}
 use Rattle.core_machine.specs.seat.FitsAccess.{SeatIsOnWay}
 use Rattle.core_machine.specs.seat.AccessMoves.{walk_move}
@@ -13,7 +14,7 @@ use Rattle.core_rule.proofs.roots.CallRoots.{IsReachedNow, roots_hold_at_call, l
 use Rattle.core_rule.proofs.steps.Loads.{loaded_state}
 use Rattle.core_rule.proofs.steps.access.WaySteps.{on_way, keeps_rule_by_way_load}
 use Rattle.core_rule.proofs.ways.LoadedPlaces.{record_reads_no_spine}
-use Rattle.core_rule.proofs.ways.OnwardWays.{way_point_is_unwatched, way_point_cases, after_walk_cases, access_stands_at_next, finds_at_point, finds_after_link}
+use Rattle.core_rule.proofs.ways.OnwardWays.{way_point_cases, after_walk_cases, access_stands_at_next, finds_at_point, finds_after_link}
 use Rattle.core_rule.proofs.cycle.Unwatched.{IsUnwatched}
 use Rattle.core_rule.proofs.steps.StepKinds.{StepKind, only_loads, comes_from_usual, walk_is_usual, stays_found_after_walk, tells_at_meta, step_kind_of_way, on_words_of_plain_step}
 
@@ -35,22 +36,26 @@ module _ (heap : Heap) (state : State) (book : Book) (number : ℕ) (rule : Rule
   gone reached links part next = on_way heap state book number rule here from point unanswered unnamed reached links part seat.address (way_point_of next)
 
   -- a seat that goes on to this point
-  goes_to : (reached links part : ℕ) (next : Seat) → has_barrier_of next ≡ has_barrier_of seat
+  goes_to : (reached links part : ℕ) (next : Seat) → has_barrier_of next ≡ has_barrier_of seat → ((side : Side) → side_register_of next side ≡ side_register_of seat side)
       → Finds (node_at g book.made) book.made book.owner book.fragments (gone reached links part next)
       → ReadsSpine heap state.words (node_at g book.made) book.owner book.fragments book.spines book.spine_owner seat
       → (IsInMarking state.collector → IsReachedNow heap state book seat.reached → IsReachedNow heap state book reached)
       → IsMachine heap (loaded_state heap state number (Word seat.reached 0) (gone reached links part next))
       → Keeps heap state (loaded_state heap state number (Word seat.reached 0) (gone reached links part next)) book book.begun []
-  goes_to reached links part next same finds reads comes machine =
+  goes_to reached links part next same sides finds reads comes machine =
       let new : Seat = gone reached links part next in
       keeps_rule_by_way_load heap state book number rule here from point unanswered unnamed (Word seat.reached 0) reached links part seat.address (way_point_of next)
-      (way_point_cases (λ point. Awaits g book.made book.owner book.fragments number new (points.Access point) []) next refl refl (λ on. refl) (λ off. refl))
+      (way_point_cases (λ point. Awaits g book.made book.owner book.fragments number new (points.Access point) []) next refl refl (λ on. refl) (λ off. refl)
+      (λ on some. refl) (λ on none some. refl) (λ none. refl))
       (access_stands_at_next (node_at g book.made) book.made book.owner book.fragments new next unloaded finds)
-      (way_point_cases (λ point. AddressAt heap state.words book new (points.Access point)) next tt reads (λ on. reads) (λ off. reads))
-      (subst (λ b. IsUnwatched b (way_point_of next)) same (way_point_is_unwatched next))
+      (way_point_cases (λ point. AddressAt heap state.words book new (points.Access point)) next tt reads (λ on. reads) (λ off. reads)
+      (λ on some. reads) (λ on none some. reads) (λ none. reads))
+      (way_point_cases (IsUnwatched new) next tt tt (λ on. tt) (λ off. sym same ∙ off) (λ on some. tt) (λ on none some. ap register_head (sym (sides Expected)) ∙ none)
+      (λ none on. let is = none (same ∙ on) in (ap register_head (sym (sides Expected)) ∙ is.0, ap register_head (sym (sides New)) ∙ is.1)))
       (λ marks roots.
       let there = comes marks (reaches roots) in
-      way_point_cases (AtCall (IsReachedNow heap state book) new) next there there (λ on. there) (λ off. there))
+      way_point_cases (AtCall (IsReachedNow heap state book) new) next there there (λ on. there) (λ off. there)
+      (λ on some. there) (λ on none some. there) (λ none. there))
       machine
 
   -- the way goes on, or the field's fragment is reached
@@ -64,9 +69,9 @@ module _ (heap : Heap) (state : State) (book : Book) (number : ℕ) (rule : Rule
       = record_reads_no_spine heap state.words (node_at g book.made) book.made book.owner book.fragments book.spines book.spine_owner on finds.index finds.row finds.way kind in
       after_walk_cases (λ s. IsMachine heap (loaded_state heap state number (Word seat.reached 0) (with_entries s []))
       → Keeps heap state (loaded_state heap state number (Word seat.reached 0) (with_entries s [])) book book.begun []) on found_first
-      (λ arrived. goes_to seat.reached links part on refl
+      (λ arrived. goes_to seat.reached links part on refl (λ side. refl)
       (finds_at_point (node_at g book.made) book.made book.owner book.fragments on seat.loaded (way_point_of on) _ finds) reads (λ marks comes. comes))
-      (λ more. goes_to (link_of found_first) (links - 1) part (after_link on found_first) refl
+      (λ more. goes_to (link_of found_first) (links - 1) part (after_link on found_first) refl (λ side. refl)
       (finds_after_link heap state.words g book.made book.owner book.fragments rule.machine.limits rule.heap_stands.control_words rule.heap_stands.ids rule.heap_stands.objects
       on seat.loaded (way_point_of (after_link on found_first)) _ more finds)
       reads (λ marks comes. link_is_reached heap state book number rule here marks comes links part more finds))

@@ -37,6 +37,8 @@ meta_cases P (commands.Get d r i) found is len more past =
     cond_both (ltb i (length_of found)) None (Some replies.NoField) P (λ e. more tt (ltb-true i (length_of found) e)) (λ e. past tt (ltb-false i (length_of found) e))
 meta_cases P (commands.Set r i v) found is len more past =
     cond_both (ltb i (length_of found)) None (Some replies.NoField) P (λ e. more tt (ltb-true i (length_of found) e)) (λ e. past tt (ltb-false i (length_of found) e))
+meta_cases P (commands.Cas r i a v) found is len more past =
+    cond_both (ltb i (length_of found)) None (Some replies.NoField) P (λ e. more tt (ltb-true i (length_of found) e)) (λ e. past tt (ltb-false i (length_of found) e))
 meta_cases P _ found is len more past = absurd is
 
 module _ (heap : Heap) (state : State) (book : Book) (number : ℕ) (rule : Rule heap state book) (here : number < heap.seats)
@@ -52,23 +54,23 @@ module _ (heap : Heap) (state : State) (book : Book) (number : ℕ) (rule : Rule
       → KeepsSpace heap false book.history (Said number (seat_at state number).command reply)
       → is_leave_of number (Said number (seat_at state number).command reply) ≡ false
       → IsMachine heap (loaded_state heap state number (Word (seat_at state number).reached 0)
-      (went (seat_at state number) (seat_at state number).registers 0 0 0 no_spot 0 points.Idle (forgotten (seat_at state number).looks) (reply_entries number (seat_at state number) reply)))
+      (went (seat_at state number) (seat_at state number).registers (seat_at state number).seen 0 0 0 no_spot 0 points.Idle (forgotten (seat_at state number).looks) (reply_entries number (seat_at state number) reply)))
       → Keeps heap state (loaded_state heap state number (Word (seat_at state number).reached 0)
-      (went (seat_at state number) (seat_at state number).registers 0 0 0 no_spot 0 points.Idle (forgotten (seat_at state number).looks) (reply_entries number (seat_at state number) reply))) book book.begun (reply_entries number (seat_at state number) reply)
+      (went (seat_at state number) (seat_at state number).registers (seat_at state number).seen 0 0 0 no_spot 0 points.Idle (forgotten (seat_at state number).looks) (reply_entries number (seat_at state number) reply))) book book.begun (reply_entries number (seat_at state number) reply)
   met_keeps reply nothing stays accepts keeps stays_here machine =
       let seat : Seat = seat_at state number in
       let g : Graph = graph_of heap book.history in
       let stands = rule.seats_stand number here in
       let entry : Entry = Said number seat.command reply in
-      keeps_rule_by_telling_load heap state book number rule here (Word seat.reached 0) seat.registers 0 0 0 no_spot 0 points.Idle (forgotten (seat_at state number).looks) (entry ∷ []) machine seat.command reply nothing g stays (only_registers_of_itself g number)
+      keeps_rule_by_telling_load heap state book number rule here (Word seat.reached 0) seat.registers seat.seen 0 0 0 no_spot 0 points.Idle (forgotten (seat_at state number).looks) (entry ∷ []) machine seat.command reply nothing g stays (only_registers_of_itself g number)
       (rw point tt) tt
-      accepts keeps
+      accepts keeps (rw point at stands.told.counts.seen)
       (λ r unawaited. stands.names.registers r (subst (λ p. IsAwaited p (target_of seat.command) r) point))
       (own_list_after_entry g book.made book.owner book.fragments number seat book.history (subst IsAnswered point) stands.told.list g _ _ (entry ∷ []) [] (entry ∷ []) refl refl
       (own_entries_grow number book.history entry (eq-eqb number number refl)) refl)
       tt tt tt stays_here
-      (seat_in_cycle_after_load heap state book number rule here (Word seat.reached 0) seat.registers 0 0 0 no_spot 0 points.Idle (forgotten (seat_at state number).looks) (entry ∷ []) machine tt)
-      (λ marks. roots_hold_off_way (IsReachedNow heap state book) seat (went seat seat.registers 0 0 0 no_spot 0 points.Idle (forgotten (seat_at state number).looks) (entry ∷ [])) refl tt)
+      (seat_in_cycle_after_load heap state book number rule here (Word seat.reached 0) seat.registers seat.seen 0 0 0 no_spot 0 points.Idle (forgotten (seat_at state number).looks) (entry ∷ []) machine tt)
+      (λ marks. roots_hold_off_way (IsReachedNow heap state book) seat (went seat seat.registers seat.seen 0 0 0 no_spot 0 points.Idle (forgotten (seat_at state number).looks) (entry ∷ [])) refl tt)
 
   -- the object has the field: the way of a record goes on by its links, and that of an array by its spine
   length_keeps : field_of (seat_at state number).command < length (cells_at (graph_of heap book.history) book.made set_out.index)
@@ -132,7 +134,7 @@ open_keeps heap state book number rule here point machine =
     let enough = spent_within_taken heap state book number rule here (way_seat_is_at_rest heap state book number rule here LoadingMeta point) in
     let little = taken_is_few_unspent heap state book number rule here (way_seat_is_at_rest heap state book number rule here LoadingMeta point) in
     let leaves_none = λ (reply : Reply). reply_is_no_leave number number seat.command reply (λ leaves. subst NamesObject leaves opens.names) in
-    let ends = λ (reply : Reply). keeps_rule_by_forgetting_load heap state book number (Word seat.reached 0) seat.registers (reply_entries number seat reply) (reply_entries number seat reply) (rw point at (seat_fits rule number here).at_point) (rw point at (seat_fits rule number here).answer_at_point) in
+    let ends = λ (reply : Reply). keeps_rule_by_forgetting_load heap state book number (Word seat.reached 0) seat.registers seat.seen (reply_entries number seat reply) (reply_entries number seat reply) (rw point at (seat_fits rule number here).at_point) (rw point at (seat_fits rule number here).answer_at_point) in
     meta_cases (λ reply. IsMachine heap (loaded_state heap state number (Word seat.reached 0) (with_entries (after_meta seat found reply) (reply_entries_if number seat reply)))
     → Keeps heap state (loaded_state heap state number (Word seat.reached 0) (with_entries (after_meta seat found reply) (reply_entries_if number seat reply))) book book.begun (reply_entries_if number seat reply))
     seat.command found opens.names

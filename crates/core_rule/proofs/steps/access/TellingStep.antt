@@ -29,7 +29,7 @@ telling_keeps heap state book number rule here point machine =
     keeps_rule_by_local_reply heap state book number Phase (seat_after (local_move number seat) (at heap state.words Phase)) (local_reply_of seat.registers seat.command) rule here machine
     (rw point tt) at_point.0 (own_list_is_all_told stands.told.list (rw point at stands.told.list.awaits)) present at_point.1
     (computed_reply_is_local heap book.history g number book.made book.owner book.fragments seat.registers present (seat_fits rule number here).own.registers_whole (has_sixteen_registers heap book.history number present)
-    (λ i. stands.names.registers i (point_awaits_none seat.point points.Local (target_of seat.command) i point (λ none. none))) seat.command at_point.1 at_point.2)
+    (λ i. stands.names.registers i (point_awaits_none seat.point points.Local (target_of seat.command) i point (λ none. none))) seat.seen (rw point at stands.told.counts.seen) seat.command at_point.1 at_point.2)
     (reply_is_no_leave number number seat.command (local_reply_of seat.registers seat.command) (λ leaves. subst (IsLocal seat.registers) leaves at_point.2))
     record { idle = refl; reserve = refl; mine = refl; answered = refl; asked = sym silent.none_asked; made = refl; sets = refl; left = refl }
     (λ marks roots. roots_hold_when_over (IsReachedNow heap state book) (seat_after (local_move number seat) (at heap state.words Phase)) tt

@@ -12,12 +12,13 @@ use Rattle.core_rule.proofs.entries.AtRest.{seat_fits, point_awaits_none}
 use Rattle.core_rule.proofs.entries.Begins.{begins, book_begun, began_at_begin}
 use Rattle.core_rule.proofs.entries.OwnEntries.{counts_agree_without_entry}
 use Rattle.core_rule.proofs.entries.SeatLists.{own_list_is_all_told}
-use Rattle.core_rule.proofs.entries.Starting.{IsFresh}
+use Rattle.core_rule.proofs.entries.Starting.{fresh_is_unnamed, IsFresh}
 use Rattle.core_rule.proofs.hand.EmptyHand.{together_where_empty, is_stored_where_none, gathers_right_unbegun}
 use Rattle.core_rule.proofs.roots.CallRoots.{IsReachedNow}
 use Rattle.core_rule.proofs.marking.Marks.{IsOffWay, roots_hold_off_way}
 use Rattle.core_rule.proofs.budgets.NoneMade.{MakesNone, no_place_where_none_made, used_stands_where_none_made, same_weights_where_none_made}
 use Rattle.core_rule.proofs.spines.SpineFrames.{spine_in_hand_away}
+use Rattle.core_rule.proofs.graph.SeenStamps.{stamps_stay}
 use Rattle.core_rule.proofs.steps.Assemble.{Keeps, keeps_rule_after_begin}
 
 -- an inner call begins on no way, and no later than the first point of an answer
@@ -66,7 +67,7 @@ begin_inner_keeps heap state book number inner rule here may machine =
           own = append-nil next.mine ∙ own_list_is_all_told stands.told.list (rw may.idle at stands.told.list.awaits);
           awaits = none_awaits inner;
         };
-        counts = counts_agree_without_entry g book.history number old next refl refl refl refl stands.told.counts;
+        counts = counts_agree_without_entry g book.history number old next refl refl (stamps_stay old next points.Idle (inner_point inner) may.idle refl tt (fresh_is_unnamed (inner_point inner) (fresh inner)) refl) refl refl stands.told.counts;
         began = began_at_begin heap state.words book number next.point;
         gathers = gathers_right_unbegun heap book.owner number (drop (begins number (length book.history) book.begun number) book.history) next.cursor next.tried next.given rest.none_tried rest.none_given;
         used = used_stands_where_none_made heap book.history number next next.point (makes_none inner);

@@ -4,7 +4,7 @@ use Rattle.heap_model.specs.Behind.{behind_of}
 use Rattle.heap_model.specs.declared.calls.collect.CollectReply.{CollectReply}
 use Rattle.heap_model.specs.declared.calls.collect.CollectReply.TheVariants.{Cycle, Waits}
 use Rattle.heap_model.specs.declared.command.Command.TheVariants as commands
-use Rattle.core_rule.proofs.Terms.{Heap, graph_of, phase, up_to_reply, Graph, graph_seat, State, seat_at, target_of, IsAtRest, IsSilent, Seat, with_seen, at, Book, IsAwaited, Rule}
+use Rattle.core_rule.proofs.Terms.{SeenStands, Heap, graph_of, phase, up_to_reply, Graph, graph_seat, State, seat_at, target_of, IsAtRest, IsSilent, Seat, with_seen, at, Book, IsAwaited, Rule}
 use Rattle.heap_model.specs.Command.{IsCommand}
 use Rattle.core_machine.specs.declared.point.Collecting.TheVariants.{Noting}
 use Rattle.core_machine.specs.declared.point.Point.TheVariants as points
@@ -46,8 +46,11 @@ module _ (heap : Heap) (state : State) (book : Book) (number : ℕ) (rule : Rule
   holds : HoldAll heap book.history g number book.made book.owner book.fragments g seat.registers
   holds i = (rule.seats_stand number here).names.registers i (λ awaited. subst (λ x. IsAwaited x (target_of seat.command) i) point awaited)
 
+  seen : SeenStands g number seat.seen
+  seen = rw point at (rule.seats_stand number here).told.counts.seen
+
   -- the reply is right by what was found
-  local : (its : CollectReply) → MayNote seat.looks its → IsLocalReply heap book.history g number book.made book.owner book.fragments commands.Collect (noted_reply its) seat.registers
+  local : (its : CollectReply) → MayNote seat.looks its → IsLocalReply heap book.history g number book.made book.owner book.fragments commands.Collect (noted_reply its) seat.registers seat.seen
   local (Cycle j) may =
       let was = looks.found (λ named. cc (point, named)) in
       let over : 7 * (j + 1) ≤ phase book.history = omega (arith, may.1, looks.seen) in
@@ -65,6 +68,7 @@ module _ (heap : Heap) (state : State) (book : Book) (number : ℕ) (rule : Rule
         says = tt;
         only = only_registers_of_itself g number;
         registers = holds;
+        seen_right = seen;
       }
   local (Waits other answered p) may =
       let was = looks.found (λ named. cc (point, named)) in
@@ -75,6 +79,7 @@ module _ (heap : Heap) (state : State) (book : Book) (number : ℕ) (rule : Rule
         says = tt;
         only = only_registers_of_itself g number;
         registers = holds;
+        seen_right = seen;
       }
 
   -- so noting it keeps the rule
@@ -86,7 +91,7 @@ module _ (heap : Heap) (state : State) (book : Book) (number : ℕ) (rule : Rule
       let present : (graph_seat g number).left ≡ false = stands.told.counts.leaves ∙ in_flight_has_not_left rule number here (λ idle. absurd (cc (point, idle))) in
       keeps_rule_by_local_reply heap state book number Phase now (noted_reply reply) rule here machine (rw point tt) fits.0 (own_list_is_all_told stands.told.list (rw point at stands.told.list.awaits)) present
       (subst IsCommand (sym fits.1) tt)
-      (subst (λ c. IsLocalReply heap book.history g number book.made book.owner book.fragments c (noted_reply reply) seat.registers) (sym fits.1) (local reply fits.2))
+      (subst (λ c. IsLocalReply heap book.history g number book.made book.owner book.fragments c (noted_reply reply) seat.registers seat.seen) (sym fits.1) (local reply fits.2))
       (reply_is_no_leave number number seat.command (noted_reply reply) (λ leaves. absurd (cc (leaves, fits.1))))
       record { idle = refl; reserve = refl; mine = refl; answered = refl; asked = sym silent.none_asked; made = refl; sets = refl; left = refl }
       (λ marks. roots_hold_off_way (IsReachedNow heap state book) seat now refl tt)

@@ -1,7 +1,7 @@
 -- The answer to a phase keeps the rule: it stands in the history, and so does the reply where a poll answers.
 use Rattle.std.proofs.Common.{◌≡◌, ◌≢◌, ℕ, ◌<◌, List, [], ◌∷◌, ◌++◌, drop, inl, inr, refl, sym, ap, ◌∙◌, subst, arith, append_assoc, append-nil}
 use Rattle.heap_model.specs.declared.command.Command.TheVariants as commands
-use Rattle.core_rule.proofs.Terms.{Entry, Said, Answers, Heap, graph_of, graph_seat, Graph, Command, put, State, seat_at, Move, Seat, call_over, with_entries, Book, CountsAgree}
+use Rattle.core_rule.proofs.Terms.{SeenStands, Entry, Said, Answers, Heap, graph_of, graph_seat, Graph, Command, put, State, seat_at, Move, Seat, call_over, with_entries, Book, CountsAgree}
 use Rattle.core_rule.proofs.Terms.{Rule, HeapStands, SeatStands, taken_of, spent_of}
 use Rattle.heap_model.specs.declared.reply.Reply.TheVariants as replies
 use Rattle.core_machine.specs.declared.table.address.Address.TheVariants.{Answer}
@@ -64,6 +64,9 @@ module _ (heap : Heap) (state : State) (book : Book) (number : ℕ) (rule : Rule
   abbrev g : Graph
   g = graph_of heap book.history
 
+  own_seen : SeenStands g number seat.seen
+  own_seen = rw point at (answering_seat_stands heap state book number rule here point).told.counts.seen
+
   -- the answer of a collect is told alone
   collect_kept : MoveKeeps heap state book number (answering number seat commands.Collect)
   collect_kept machine =
@@ -75,7 +78,7 @@ module _ (heap : Heap) (state : State) (book : Book) (number : ℕ) (rule : Rule
         told = record {
           list = record { awaited = []; own = append-nil now.mine ∙ (own_list_in_middle heap state book number rule here point); awaits = refl };
           counts = counts_agree_after_own g (graph_of heap middle.history) book.history number seat now (answering_seat_stands heap state book number rule here point).told.counts first (answer_is_own_entry heap state book number rule here point)
-              (rw (middle_graph_is_same heap state book number rule here point) (answering_seat_stands heap state book number rule here point).told.counts.numbered) (rw (middle_graph_is_same heap state book number rule here point) (answering_seat_stands heap state book number rule here point).told.counts.stamped) (rw (middle_graph_is_same heap state book number rule here point) (answering_seat_stands heap state book number rule here point).told.counts.leaves)
+              (rw (middle_graph_is_same heap state book number rule here point) (answering_seat_stands heap state book number rule here point).told.counts.numbered) (rw (middle_graph_is_same heap state book number rule here point) (answering_seat_stands heap state book number rule here point).told.counts.stamped) (rw (middle_graph_is_same heap state book number rule here point) own_seen) (rw (middle_graph_is_same heap state book number rule here point) (answering_seat_stands heap state book number rule here point).told.counts.leaves)
               (omega (arith, bare_seat_holds_reserve seat.reserve seat.hand seat.body (spent_of number book.history) (taken_of number book.history) (answering_is_at_rest heap state book number rule here point).empty_hand (answering_is_at_rest heap state book number rule here point).no_body (answering_seat_stands heap state book number rule here point).told.counts.unborn, (answering_seat_stands heap state book number rule here point).told.counts.unborn));
           began = began_idle_after_reply book.history first number (book.begun number) seat.point (answering_seat_stands heap state book number rule here point).told.began;
           gathers = gathers_right_unbegun heap book.owner number (drop (book.begun number) middle.history) now.cursor 0 0 refl refl;
@@ -112,7 +115,7 @@ module _ (heap : Heap) (state : State) (book : Book) (number : ℕ) (rule : Rule
   own_stands =
       let counts_middle : CountsAgree (graph_of heap middle.history) middle.history number seat
       = counts_agree_after_own g (graph_of heap middle.history) book.history number seat seat (answering_seat_stands heap state book number rule here point).told.counts first (answer_is_own_entry heap state book number rule here point)
-      (rw (middle_graph_is_same heap state book number rule here point) (answering_seat_stands heap state book number rule here point).told.counts.numbered) (rw (middle_graph_is_same heap state book number rule here point) (answering_seat_stands heap state book number rule here point).told.counts.stamped) (rw (middle_graph_is_same heap state book number rule here point) (answering_seat_stands heap state book number rule here point).told.counts.leaves) (omega arith) in
+      (rw (middle_graph_is_same heap state book number rule here point) (answering_seat_stands heap state book number rule here point).told.counts.numbered) (rw (middle_graph_is_same heap state book number rule here point) (answering_seat_stands heap state book number rule here point).told.counts.stamped) (rw (middle_graph_is_same heap state book number rule here point) (answering_seat_stands heap state book number rule here point).told.counts.seen) (rw (middle_graph_is_same heap state book number rule here point) (answering_seat_stands heap state book number rule here point).told.counts.leaves) (omega arith) in
       record {
         own = (own_stands_after_answer heap state book number rule here point) (forgotten seat.looks) (first ∷ second ∷ []);
         names = record { registers = rw (graph_then ∙ (middle_graph_is_same heap state book number rule here point)) (λ i awake. (answering_registers_hold_values heap state book number rule here point) i); way = tt; address = tt };
@@ -124,7 +127,7 @@ module _ (heap : Heap) (state : State) (book : Book) (number : ℕ) (rule : Rule
             awaits = refl;
           };
           counts = counts_agree_after_own (graph_of heap middle.history) (graph_of heap later.history) middle.history number seat now counts_middle second (answer_is_own_entry heap state book number rule here point)
-              (rw graph_then counts_middle.numbered) (rw graph_then counts_middle.stamped) (rw graph_then counts_middle.leaves)
+              (rw graph_then counts_middle.numbered) (rw graph_then counts_middle.stamped) (rw (graph_then ∙ middle_graph_is_same heap state book number rule here point) own_seen) (rw graph_then counts_middle.leaves)
               (omega (arith, bare_seat_holds_reserve seat.reserve seat.hand seat.body (spent_of number middle.history) (taken_of number middle.history) (answering_is_at_rest heap state book number rule here point).empty_hand (answering_is_at_rest heap state book number rule here point).no_body counts_middle.unborn));
           began = began_idle_after_reply middle.history second number (book.begun number) seat.point (began_after_entry book.history first number (book.begun number) seat.point seat.point refl (λ busy. busy) (answering_seat_stands heap state book number rule here point).told.began);
           gathers = gathers_right_unbegun heap book.owner number (drop (book.begun number) later.history) now.cursor 0 0 refl refl;

@@ -68,7 +68,7 @@ empty_keeps heap state book number rule here point machine =
       told = record {
         list = own_list_where_all_told (graph_of heap later.history) later.history book.made later.owner book.fragments number now refl (own_list_grows number book.history seat.mine entry (eq-eqb number number refl) told);
         counts = rw graph (counts_agree_after_own g g book.history number seat now stands.told.counts entry (eq-eqb number number refl)
-            stands.told.counts.numbered stands.told.counts.stamped stands.told.counts.leaves (omega arith));
+            stands.told.counts.numbered stands.told.counts.stamped (rw point at stands.told.counts.seen) stands.told.counts.leaves (omega arith));
         began = began_after_entry book.history entry number (book.begun number) seat.point now.point refl (λ still. subst IsAnswered point) stands.told.began;
         gathers = gathers_right_unbegun heap later.owner number (drop (book.begun number) later.history) seat.cursor seat.tried seat.given rest.none_tried rest.none_given;
         used = tt;

@@ -1,6 +1,7 @@
 -- A seat's leave keeps the rule.
-use Rattle.std.proofs.Common.{◌≡◌, ℕ, zero, suc, ◌<◌, true, false, List, [], length, get_or, replicate, refl, sym, ap, ◌∙◌, subst, arith}
+use Rattle.std.proofs.Common.{◌≡◌, ℕ, zero, suc, ◌^◌, ◌<◌, true, false, List, [], length, map, get_or, replicate, refl, sym, ap, ◌∙◌, subst, arith}
 use Rattle.std.proofs.lemmas.Bool.{eq-eqb}
+use Rattle.std.proofs.lemmas.List.Elements.{All-replicate}
 use Rattle.heap_words.specs.declared.phase.TheConstants.{LEFT}
 use Rattle.heap_model.specs.declared.command.Command.TheVariants as commands
 use Rattle.core_rule.proofs.Terms.{Entry, Value, leave, graph_of, after_reply, graph_seat, phase, is_leave_of, Graph, IsAtRest, at, put, seat_at, Seat, Objects, IsReached, unset}
@@ -84,6 +85,7 @@ leave_keeps heap state book number rule here point machine =
       made = stands.told.counts.numbered ∙ sym changes.objects;
       sets = stands.told.counts.stamped ∙ sym changes.sets;
       left = ap (λ (p : GraphSeat). p.left) party_now;
+      seen = record { stamps = ap (λ (p : GraphSeat). map (λ (cell : Cell). cell.stamp) p.registers) (sym party_now); small = All-replicate (λ stamp. stamp < 2 ^ 32) 16 0 (omega arith) };
       registers = λ i. all_holds i (ap (λ (p : GraphSeat). (get_or p.registers i unset).value) party_now ∙ ap (λ (register : Cell). register.value) (all_nil unset 16 i));
     }
     (heap_in_cycle_after_answer heap state.words number LEFT small (phase book.history) book.owner book.colour book.fragments rule.heap_stands.cycle)

@@ -93,19 +93,20 @@ module _ (heap : Heap) (state : State) (book : Book) (number : ℕ) (rule : Rule
   -- the seat has answered the phase: a poll tells it
   poll_tells : found ≡ seat.answered → seat.command ≡ commands.Poll → PollKeeps heap state book number commands.Poll true
   poll_tells same polls =
-      let local : IsLocalReply heap book.history g number book.made book.owner book.fragments commands.Poll (replies.Phase found) seat.registers
+      let local : IsLocalReply heap book.history g number book.made book.owner book.fragments commands.Poll (replies.Phase found) seat.registers seat.seen
       = record {
         plain = record { none = refl; space = tt; spine = tt; phases = (is_phase, same ∙ sym stands.cycle.answers_told.told); most = refl };
         says = tt;
         only = only_registers_of_itself g number;
         registers = holds;
+        seen_right = rw point at stands.told.counts.seen;
       } in
       let next = λ (c : Command). with_entries (after_call (with_seen found seat)) (entries.Said number c (replies.Phase found) ∷ []) in
       subst (λ c. IsMachine heap (record state { words = put heap state.words Phase found; seats = slice_set state.seats number (next c) })
       → Keeps heap state (record state { words = put heap state.words Phase found; seats = slice_set state.seats number (next c) }) book book.begun (entries.Said number c (replies.Phase found) ∷ [])) polls
       (λ machine. keeps_rule_by_local_reply heap state book number Phase (next seat.command) (replies.Phase found) rule here machine (rw point tt) rest mine_told (stands.told.counts.leaves ∙ stays)
       (subst IsCommand (sym polls) tt)
-      (subst (λ c. IsLocalReply heap book.history g number book.made book.owner book.fragments c (replies.Phase found) seat.registers) (sym polls) local)
+      (subst (λ c. IsLocalReply heap book.history g number book.made book.owner book.fragments c (replies.Phase found) seat.registers seat.seen) (sym polls) local)
       (reply_is_no_leave number number seat.command (replies.Phase found) (λ leaves. absurd (cc (leaves, polls))))
       record { idle = refl; reserve = refl; mine = refl; answered = refl; asked = sym asks.0.none_asked; made = refl; sets = refl; left = refl }
       (λ marks. roots_hold_off_way (IsReached heap state.words book.owner book.colour) seat (next seat.command) refl tt))
@@ -150,7 +151,7 @@ module _ (heap : Heap) (state : State) (book : Book) (number : ℕ) (rule : Rule
         names = record { registers = λ i awake. holds i; way = tt; address = tt };
         told = record {
           list = record { awaited = []; own = append-nil next.mine ∙ append-nil seat.mine ∙ mine_told; awaits = refl };
-          counts = counts_agree_without_entry g book.history number seat next refl refl refl refl stands.told.counts;
+          counts = counts_agree_without_entry g book.history number seat next refl refl (rw point refl) refl refl stands.told.counts;
           began = began_without_entry book.history number (book.begun number) seat.point next.point (rw point (λ same. same)) stands.told.began;
           gathers = stands.told.gathers;
           used = tt;

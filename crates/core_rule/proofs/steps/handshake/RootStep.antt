@@ -59,7 +59,7 @@ root_keeps heap state book number rule here point machine =
     (λ rests. omega (arith, rests, asks.now, is_third)) machine
     (λ r unawaited. held r)
     (own_list_after_entry g book.made book.owner book.fragments number seat book.history busy stands.told.list g book.history new [] [] [] refl refl (sym (append-nil (filter (is_of number) book.history))) refl)
-    tt (rw point tt) tt tt busy
+    tt (rw point tt) tt tt tt busy
     (seat_in_cycle_by_flight heap state.words (words_shaded heap state book number rule here f head.index head.kept head.is) book.owner book.owner book.colour (with_mark book.colour f) p
     (last_answer number book.history) (has_left number book.history) number seat new
     record { answered = refl; left = refl; asked = refl } (answer_same_after_shade heap state book number rule here f head.index head.kept head.is number here)

@@ -6,6 +6,7 @@ use Rattle.heap_model.specs.declared.command.Command.TheVariants as commands
 use Rattle.core_machine.specs.declared.point.Point.TheVariants as points
 use Rattle.core_machine.proofs.seat_lemmas.Fitting.{record_makes_object}
 use Rattle.core_rule.proofs.marking.Marks.{roots_hold_off_way}
+use Rattle.core_rule.proofs.graph.SeenStamps.{stamps_stay}
 use Rattle.core_rule.proofs.steps.Assemble.{Keeps, keeps_rule_after_begin}
 use Rattle.core_rule.proofs.entries.AtRest.{seat_fits, point_awaits_none}
 use Rattle.core_rule.proofs.entries.Begins.{begins, began_at_begin}
@@ -53,7 +54,8 @@ begin_keeps heap state book number command rule here may a_record machine =
       told = record {
         list = own_list_of_making (graph_of heap book.history) book.history book.made book.owner book.fragments number next stays.making stays.point_is
             (same.mine ∙ idle_list_is_all_told (graph_of heap book.history) book.history book.made book.owner book.fragments number (seat_at state number) may.idle stands.told.list);
-        counts = counts_agree_without_entry (graph_of heap book.history) book.history number (seat_at state number) next same.made same.sets same.left (held_length_goes_on heap seat rest.no_body) stands.told.counts;
+        counts = counts_agree_without_entry (graph_of heap book.history) book.history number (seat_at state number) next same.made same.sets
+            (stamps_stay (seat_at state number) next points.Idle (points.Making stays.making) may.idle stays.point_is tt tt same.seen) same.left (held_length_goes_on heap seat rest.no_body) stands.told.counts;
         began = began_at_begin heap state.words book number next.point;
         used = unplaced.none_used heap book.history number;
         gathers = gathers_right_goes_on heap book.owner number (drop (begins number (length book.history) book.begun number) book.history) seat rest.none_given

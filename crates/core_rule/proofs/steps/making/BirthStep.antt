@@ -110,7 +110,7 @@ group_birth_keeps heap state book number rule here point machine =
       told = record {
         list = own_list_of_making (graph_of heap book.history) book.history book.made owner book.fragments number born Bearing point
             (append-nil seat.mine ∙ making_list_is_all_told (graph_of heap book.history) book.history book.made book.owner book.fragments number seat Bearing point stands.told.list);
-        counts = counts_agree_without_entry (graph_of heap book.history) book.history number seat born refl refl refl
+        counts = counts_agree_without_entry (graph_of heap book.history) book.history number seat born refl refl (rw point refl) refl
             (rw (in_hand_ignores_hand (outside_group g seat.hand) seat.hand seat.body some) refl) stands.told.counts;
         began = stands.told.began;
         used = rw point tt;

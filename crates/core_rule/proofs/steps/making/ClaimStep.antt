@@ -22,6 +22,7 @@ use Rattle.core_rule.proofs.marking.Marks.{marks_go_on_off_way}
 use Rattle.core_rule.proofs.budgets.SameBooks.{same_grants_with_owners, same_dead_after_handing}
 use Rattle.core_rule.proofs.spines.OtherWords.{leaves_spines_after_control}
 use Rattle.core_rule.proofs.spines.SpineFrames.{spines_stand_with_budget, same_shape_of_itself, spine_in_hand_away, spines_left_of_itself, spine_is_stored_still, places_stay_where_same}
+use Rattle.core_rule.proofs.graph.SeenStamps.{stamps_stay}
 use Rattle.core_rule.proofs.steps.Assemble.{making_seat_has_not_left, keeps_rule_after_step, space_stands_after_step, StepKeeps, seat_fits}
 use Rattle.core_rule.proofs.colours.BirthColours.{marks_after_claim}
 use Rattle.core_rule.proofs.hand.Bodies.{in_hand_is_hand}
@@ -143,7 +144,7 @@ claim_keeps heap state book number rule here point machine =
       };
       told = record {
         list = own_list_of_making (graph_of heap history) history book.made owner book.fragments number next stays.making stays.point_is (ap (λ m. m ++ added) same.mine ∙ tells.own seat.mine list);
-        counts = rw tells.graph (tells.counts next same.made same.sets same.left
+        counts = rw tells.graph (tells.counts next same.made same.sets (stamps_stay seat next (points.Making Gathering) (points.Making stays.making) point stays.point_is tt tt same.seen) same.left
             (held_length_goes_on heap mid gathers.no_body ∙ more_in_hand seat.reserve seat.hand seat.body fs gathers.no_body));
         began = tells.began next.point;
         used = unplaced.none_used heap history number;

@@ -77,7 +77,7 @@ give_back_keeps heap state book number rule here point machine =
       told = record {
         list = own_list_where_all_told (graph_of heap later.history) later.history book.made later.owner book.fragments number now refl (own_list_grows number book.history seat.mine entry (eq-eqb number number refl) list);
         counts = rw graph (counts_agree_after_own before before book.history number seat now stands.told.counts entry (eq-eqb number number refl)
-            stands.told.counts.numbered stands.told.counts.stamped stands.told.counts.leaves (omega (arith, left_of_hand seat.reserve seat.hand seat.body g refuses.no_body)));
+            stands.told.counts.numbered stands.told.counts.stamped (rw point at stands.told.counts.seen) stands.told.counts.leaves (omega (arith, left_of_hand seat.reserve seat.hand seat.body g refuses.no_body)));
         began = began_after_entry book.history entry number (book.begun number) seat.point (points.Making (refusal_point (outside_group g seat.hand))) refl (λ still. making_is_not_answered GivingBack seat.point point) stands.told.began;
         used = unplaced.none_used heap later.history number;
         gathers = own_giving_gathers_right heap book.owner book.history number group_hand once (hand_within_heap heap state.words book.owner rule.heap_stands.control_words number group_hand held) rule.heap_stands.used

@@ -27,6 +27,7 @@ use Rattle.core_rule.proofs.spines.SpineFrames.{spine_in_hand_away}
 use Rattle.core_rule.proofs.budgets.UsedFound.{finds_spine_by_budget}
 use Rattle.core_rule.proofs.budgets.WeightSums.{spine_need_within_limit}
 use Rattle.core_rule.proofs.frames.BudgetWritten.{budget_words, budget_words_leave_places, same_sources_after_budget, heap_stands_after_budget, seat_stands_after_budget}
+use Rattle.core_rule.proofs.graph.SeenStamps.{stamps_stay}
 use Rattle.core_rule.proofs.steps.Assemble.{Keeps, keeps_rule_after_step, StepKeeps, seat_fits}
 use Rattle.core_rule.proofs.steps.StepKinds.{StepKind, beside, comes_from_grant, stays_found_after_budget, step_kind_of_way, on_words_of_plain_step}
 
@@ -93,7 +94,7 @@ module _ (heap : Heap) (state : State) (book : Book) (number : ℕ) (rule : Rule
         told = record {
           list = own_list_of_making g book.history book.made book.owner book.fragments number new stays.making stays.point_is
               (append-nil next.mine ∙ same.mine ∙ making_list_is_all_told g book.history book.made book.owner book.fragments number seat Granting point stands.told.list);
-          counts = counts_agree_without_entry g book.history number seat new same.made same.sets same.left as_many stands.told.counts;
+          counts = counts_agree_without_entry g book.history number seat new same.made same.sets (stamps_stay seat new (points.Making Granting) (points.Making stays.making) point stays.point_is tt tt same.seen) same.left as_many stands.told.counts;
           began = began_without_entry book.history number (book.begun number) seat.point next.point (making_is_not_answered Granting seat.point point) stands.told.began;
           gathers = gathers;
           used = used;
@@ -117,7 +118,7 @@ module _ (heap : Heap) (state : State) (book : Book) (number : ℕ) (rule : Rule
       let next : Seat = record seat { used = found; point = points.Making Withdrawing } in
       goes next
       record {
-        same = record { registers = refl; stored = refl; mine = refl; made = refl; sets = refl; answered = refl; left = refl; asked = refl };
+        same = record { registers = refl; seen = refl; stored = refl; mine = refl; made = refl; sets = refl; answered = refl; left = refl; asked = refl };
         making = Withdrawing;
         point_is = refl;
       }

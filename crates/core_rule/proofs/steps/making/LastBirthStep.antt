@@ -12,6 +12,7 @@ use Rattle.core_rule.proofs.spines.SpineBirths.{gone_stays_at_birth, spine_in_ha
 use Rattle.core_rule.proofs.spines.SpineFrames.{PlacesStay, spine_is_stored_still}
 use Rattle.core_rule.proofs.frames.SeatFrames.{KeptStays, address_at_stays, seat_told_same_after_other, seat_stands_where_left_alone}
 use Rattle.heap_model.proofs.graph_changes.SameParties.{same_party_of_same_graph}
+use Rattle.core_rule.proofs.graph.SeenStamps.{seen_after_add}
 use Rattle.core_rule.proofs.steps.making.LastBirthSpace.{graph_is_grown, one_more_object_born, born_body_each_once, body_was_not_kept, born_body_is_new, made_is_one_longer, same_shapes_after_birth, new_spine_words_are_needed, space_stands_after_birth}
 use Rattle.core_rule.proofs.cycle.FieldFrames.{watched_is_born}
 use Rattle.core_rule.proofs.marking.LastBirthMarks.{book_born, marks_go_on_when_made}
@@ -151,7 +152,8 @@ group_birth_keeps heap state book number rule here point last machine =
       told = record {
         list = own_list_where_all_told (graph_of heap now.history) now.history now.made now.owner now.fragments number (seat_after (last_birth_move number seat) found) refl
             (own_list_grows number book.history seat.mine entry (eq-eqb number number refl) list);
-        counts = rw graph (counts_agree_after_made g book.history number seat stands.told.counts has.whole some present d (fresh array cells) found);
+        counts = rw graph (counts_agree_after_made g book.history number seat stands.told.counts has.whole some present d (fresh array cells) found
+            (seen_after_add g number seat.seen (rw point at stands.told.counts.seen) d (fresh array cells) present));
         began = began_idle_after_reply book.history entry number (book.begun number) seat.point stands.told.began;
         used = tt;
         gathers = gathers_right_untried heap now.owner number (drop (book.begun number) now.history) seat.cursor;

@@ -100,7 +100,7 @@ listing_keeps heap state book number rule here point machine =
       told = record {
         list = own_list_of_making g book.history book.made book.owner book.fragments number new to refl
             (append-nil seat.mine ∙ making_list_is_all_told g book.history book.made book.owner book.fragments number seat Listing point stands.told.list);
-        counts = counts_agree_without_entry g book.history number seat new refl refl refl refl stands.told.counts;
+        counts = counts_agree_without_entry g book.history number seat new refl refl (rw point refl) refl refl stands.told.counts;
         began = began_without_entry book.history number (book.begun number) seat.point new.point (making_is_not_answered Listing seat.point point) stands.told.began;
         gathers = stands.told.gathers;
         used = list_cases (λ m. UsedStands heap book.history number new (points.Making m)) (seat.listed + 1) (spine_need seat) tt tt;

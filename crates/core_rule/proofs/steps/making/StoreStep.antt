@@ -104,7 +104,7 @@ store_keeps heap state book number rule here point machine =
       told = record {
         list = own_list_where_all_told (graph_of heap book.history) book.history book.made book.owner book.fragments number (seat_after (store_move number seat) found) refl
             (append-nil seat.mine ∙ making_list_is_all_told (graph_of heap book.history) book.history book.made book.owner book.fragments number seat Storing point stands.told.list);
-        counts = counts_agree_without_entry (graph_of heap book.history) book.history number seat (seat_after (store_move number seat) found) refl refl refl refl stands.told.counts;
+        counts = counts_agree_without_entry (graph_of heap book.history) book.history number seat (seat_after (store_move number seat) found) refl refl (rw point refl) refl refl stands.told.counts;
         began = began_without_entry book.history number (book.begun number) seat.point (seat_after (store_move number seat) found).point (making_is_not_answered Storing seat.point point) stands.told.began;
         gathers = stands.told.gathers;
         used = stays.none_used heap book.history number;

@@ -87,7 +87,7 @@ module _ (heap : Heap) (state : State) (book : Book) (number : ℕ) (rule : Rule
         told = record {
           list = own_list_where_all_told after book_refused.history book.made book.owner book.fragments number refused refl (own_list_grows number book.history seat.mine entry (eq-eqb number number refl) list);
           counts = rw graph (counts_agree_after_own before before book.history number seat refused stands.told.counts entry (eq-eqb number number refl)
-              stands.told.counts.numbered stands.told.counts.stamped stands.told.counts.leaves (omega (arith, none_left, effect_summand_is_none entry (λ e. e.born) nothing refl)));
+              stands.told.counts.numbered stands.told.counts.stamped (rw point at stands.told.counts.seen) stands.told.counts.leaves (omega (arith, none_left, effect_summand_is_none entry (λ e. e.born) nothing refl)));
           began = began_idle_after_reply book.history entry number (book.begun number) seat.point stands.told.began;
           gathers = gathers_right_untried heap book.owner number (drop (book.begun number) book_refused.history) seat.cursor;
           used = tt;

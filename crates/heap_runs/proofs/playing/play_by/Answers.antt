@@ -7,6 +7,7 @@ use Rattle.log_merge.specs.Legal.{ShowsUse}
 use Rattle.heap_runs.specs.Play.{StandForEach}
 use Rattle.heap_runs.specs.PlayHeap.{PlayState, IsPlayed}
 use Rattle.heap_runs.specs.Pressed.{StandsByWay}
+use Rattle.heap_runs.proofs.PlayTexts.{play_has_text}
 use Rattle.heap_runs.proofs.Whole.{script_is_played_whole}
 use Rattle.heap_runs.proofs.playing.play_by.Goals as goal
 
@@ -15,8 +16,8 @@ make_last_cycle-requires g c =
     let left = c.in_ok-leave_all.ensures in
     record { gone = λ number under. left.gone number (subst (λ (h : Heap). number < h.seats) left.of_heap under) }
 
-pub returns : goal.returns
-returns g c =
+pub returns-clause-played : goal.returns-clause-played
+returns-clause-played g c =
     let script = c.args.script.now in
     let middle : PlayState = g.H.PlayHeap.state c.in_ok-whole.whole in
     let gone : PlayState = g.H.PlayHeap.state c.leave_all.new.whole in
@@ -32,3 +33,6 @@ returns g c =
     (subst (λ (es : List Entry). c.words_in_use.result + words_returned es ≡ words_granted es) c.entries-3.ensures.entries c.words_in_use.ensures) (c.from-3.ensures ∙ ap (λ (h : Heap). h.spine) c.requires.heap)
     (subst (λ (es : List Entry). ShowsUse script.heap es c.in_use-2.result) c.entries-4.ensures.entries (subst (λ (h : Heap). ShowsUse h c.entries-4.result.now c.in_use-2.result) c.requires.heap c.in_use-2.ensures))
     (rw (c.requires.heap, c.from_vec.ensures) refl)
+
+pub returns-clause-spelled : goal.returns-clause-spelled
+returns-clause-spelled g c = play_has_text c.args.way (is_some c.args.pace) c.args.script.now _ c.requires.form (returns-clause-played g c)

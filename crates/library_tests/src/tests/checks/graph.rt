@@ -9,6 +9,7 @@ use std::test::Fail;
 
 mod reach;
 mod seen;
+mod swaps;
 
 const FIRST: Id = Id::Made { seat: 0, count: 0 };
 

@@ -59,6 +59,12 @@ fn access_text(alloc: Global, step: AccessStep) -> Result<String, AllocError> {
             part,
             word,
         } => format!(in alloc; "swap {fragment}.{part} {word:x}"),
+        AccessStep::CompareSwap {
+            old,
+            new,
+            fragment,
+            part,
+        } => format!(in alloc; "compare {fragment}.{part} {old:x} {new:x}"),
     }
 }
 

@@ -16,7 +16,7 @@ pub fn may_call<S: SeatCalls>(seat: &S, command: &Command) -> bool
     command.is_in_range() && !seat.left() && seat.spare() >= room && counts
 }
 
-/// Calls the seat by the command; none by a collect, which is no one call.
+/// Calls the seat by the command; none by a collect, which is no one call, nor by a cas, for which there is none yet.
 pub fn call<S: SeatCalls>(seat: &mut S, command: Command) -> Option<Reply>
     requires { IsReady (S.state seat.old) command }
 {
@@ -40,7 +40,7 @@ pub fn call<S: SeatCalls>(seat: &mut S, command: Command) -> Option<Reply>
         Command::Same { a, b } => same_reply(seat.same(a, b)),
         Command::Len { r } => len_reply(seat.len(r)),
         Command::Poll => Reply::Phase(seat.poll()),
-        Command::Collect => return None,
+        Command::Cas { .. } | Command::Collect => return None,
         Command::Leave => {
             seat.leave();
             Reply::Done

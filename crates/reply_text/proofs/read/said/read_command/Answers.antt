@@ -1,12 +1,12 @@
 use Rattle.std.proofs.Common.{◌≡◌, ◌∷◌, ◌++◌, rules, ap, ◌∙◌, bytes_eq, codes, false}
 use Rattle.script_text.specs.Words.{command_words}
-use Rattle.reply_text.proofs.read_lemmas.CommandReading.{first_command, first_command-words, scripted_at-None}
+use Rattle.reply_text.proofs.read_lemmas.CommandReading.{first_command, first_command-words, scripted_at-None, scripted_command_is_spelled}
 use Rattle.reply_text.proofs.read.said.read_command.Goals as goal
 
 pub returns-in-Ok-clause-gives : goal.returns-in-Ok-clause-gives
 returns-in-Ok-clause-gives c =
     let words : c.args.word.now ∷ c.args.words.now ≡ command_words c.in-Ok.command ++ c.operands.new.words = search rules in
-    ap first_command words ∙ first_command-words c.in-Ok.command _ (search rules)
+    ap first_command words ∙ first_command-words c.in-Ok.command _ (search rules) (scripted_command_is_spelled c.in-Ok.command (search rules))
 
 pub returns-in-Err-clause-gives : goal.returns-in-Err-clause-gives
 returns-in-Err-clause-gives c =

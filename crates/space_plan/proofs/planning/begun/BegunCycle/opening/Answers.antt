@@ -1,5 +1,5 @@
 use Rattle.std.proofs.Common.{refl, ◌∙◌, subst}
-use Rattle.space_plan.specs.plan.Cycles.{HasReach}
+use Rattle.heap_model.specs.graph.Sizes.{HasReach}
 use Rattle.space_plan.proofs.plan_lemmas.CycleSums.{BegunTells-opening}
 use Rattle.space_plan.proofs.planning.begun.BegunCycle.opening.Goals as goal
 
