@@ -3,9 +3,12 @@ pub mod Applying
 pub mod BehindLemmas
 pub mod Counting
 pub mod CycleLemmas
+pub mod Fronts
+pub mod LastEntries
 pub mod Noting
 pub mod Opening
 pub mod SeatsMore
+pub mod Sections
 pub mod Snoc
 pub mod SwungLemmas
 pub mod Telling

@@ -33,4 +33,4 @@ pub use graph::cell::Cell;
 pub use heap::Heap;
 pub use id::{Id, Value};
 pub use refusal::{Full, NoObject, PlaceRefusal, SpaceRefusal};
-pub use reply::{Reply, TurnReply};
+pub use reply::{Reply, Swapped, TurnReply};

@@ -22,6 +22,15 @@ pub enum Reply {
     SpineFull { need: u32, used: u32 },
 }
 
+/// What a compare and swap came to, where there was a field.
+#[derive(Clone, Copy, Debug, PartialEq, Eq)]
+pub enum Swapped {
+    /// The field was as the register was seen, and has the new value; this was its stamp.
+    Was(u32),
+    /// The field had another value or another stamp, which is this, and was left as it is.
+    Now(u32),
+}
+
 /// The answer to a command of the collector.
 #[derive(Clone, Copy, Debug, PartialEq, Eq)]
 pub enum TurnReply {

@@ -1,7 +1,7 @@
 -- What the calls on fields, lengths and comparisons tell of what is the seat's own, as the trait says it.
 use Rattle.std.proofs.Common.{◌≡◌, ◌≢◌, ℕ, ◌<◌, ◌≤◌, Bool, true, false, Option, Some, None, Result, Ok, Err, length, refl, sym, ap, subst, ◌∙◌, inl, inr, arith}
 use Rattle.std.specs.Prelude.{◌↔◌, IfSome, IsTrue, IsErr}
-use Rattle.heap_model.specs.calls.SeatReplies.{get_reply, set_reply, same_reply, len_reply}
+use Rattle.heap_model.specs.calls.SeatReplies.{get_reply, set_reply, cas_reply, same_reply, len_reply}
 use Rattle.heap_model.specs.calls.SeatState.{held_value, IsNoObject, HoldsNoObject, own_object}
 use Rattle.heap_model.specs.declared.command.Command.{Command}
 use Rattle.heap_model.specs.declared.command.Command.TheVariants as commands
@@ -12,6 +12,8 @@ use Rattle.heap_model.specs.declared.refusal.PlaceRefusal.{PlaceRefusal}
 use Rattle.heap_model.specs.declared.refusal.PlaceRefusal.TheVariants as refusals
 use Rattle.heap_model.specs.declared.reply.Reply.{Reply}
 use Rattle.heap_model.specs.declared.reply.Reply.TheVariants as replies
+use Rattle.heap_model.specs.declared.reply.Swapped.{Swapped}
+use Rattle.heap_model.specs.declared.reply.Swapped.TheVariants as swaps
 use Rattle.heap_model.specs.graph.Graph.{Node, Graph}
 use Rattle.heap_model.specs.graph.Objects.{target_node}
 use Rattle.core_machine.specs.calls.Kept.{Kept, kept_of}
@@ -70,6 +72,10 @@ got_other cell = (λ e. cc, λ e. cc)
 set_other : (stamp : ℕ) → (set_reply (Ok stamp) ≢ replies.NoObject) × (set_reply (Ok stamp) ≢ replies.NoField)
 set_other stamp = (λ e. cc, λ e. cc)
 
+swap_other : (swapped : Swapped) → (cas_reply (Ok swapped) ≢ replies.NoObject) × (cas_reply (Ok swapped) ≢ replies.NoField)
+swap_other (swaps.Was stamp) = (λ e. cc, λ e. cc)
+swap_other (swaps.Now stamp) = (λ e. cc, λ e. cc)
+
 -- as the trait says it of a get
 module _ (old new : SeatHeld) (d r i : ℕ) (result : Result (Value × ℕ) PlaceRefusal) (call : MakesCall old new (commands.Get d r i) (get_reply result)) where
   pub get_refused_without_object : (result ≡ Err refusals.NoObject) ↔ HoldsNoObject (seat_state old) r
@@ -85,6 +91,14 @@ module _ (old new : SeatHeld) (r i v : ℕ) (result : Result ℕ PlaceRefusal) (
 
   pub set_refused_past_end : IfSome (own_object (seat_state old) r) (λ object. (result ≡ Err refusals.NoField) ↔ (length object.cells ≤ i))
   set_refused_past_end = past_exactly set_reply refl refl set_other (λ object. length object.cells ≤ i) (own_object (seat_state old) r) result (refused_past old new (commands.Set r i v) (set_reply result) call tt tt)
+
+-- of a cas
+module _ (old new : SeatHeld) (r i a v : ℕ) (result : Result Swapped PlaceRefusal) (call : MakesCall old new (commands.Cas r i a v) (cas_reply result)) where
+  pub cas_refused_without_object : (result ≡ Err refusals.NoObject) ↔ HoldsNoObject (seat_state old) r
+  cas_refused_without_object = none_exactly cas_reply refl refl swap_other result (refused_without old new (commands.Cas r i a v) (cas_reply result) call tt)
+
+  pub cas_refused_past_end : IfSome (own_object (seat_state old) r) (λ object. (result ≡ Err refusals.NoField) ↔ (length object.cells ≤ i))
+  cas_refused_past_end = past_exactly cas_reply refl refl swap_other (λ object. length object.cells ≤ i) (own_object (seat_state old) r) result (refused_past old new (commands.Cas r i a v) (cas_reply result) call tt tt)
 
 -- of a len
 module _ (old new : SeatHeld) (r : ℕ) where

@@ -1,9 +1,9 @@
 ghost use Rattle.std.specs.Prelude.{◌≡◌};
 ghost use Rattle.heap_model.specs.declared.reply.Reply.TheVariants.{Phase};
-ghost use Rattle.heap_model.specs.calls.SeatReplies.{record_reply, array_reply, get_reply, set_reply, same_reply, len_reply};
-ghost use Rattle.mutator_seat.specs.Replies.{TellsPhase, AnswersRecord, AnswersArray, AnswersGet, AnswersSet, AnswersSame, AnswersLen};
+ghost use Rattle.heap_model.specs.calls.SeatReplies.{record_reply, array_reply, get_reply, set_reply, cas_reply, same_reply, len_reply};
+ghost use Rattle.mutator_seat.specs.Replies.{TellsPhase, AnswersRecord, AnswersArray, AnswersGet, AnswersSet, AnswersCas, AnswersSame, AnswersLen};
 
-use heap_model::{Full, Id, NoObject, PlaceRefusal, Reply, SpaceRefusal, Value};
+use heap_model::{Full, Id, NoObject, PlaceRefusal, Reply, SpaceRefusal, Swapped, Value};
 
 /// The phase that a poll's reply tells.
 pub(crate) fn phase_of(reply: Reply) -> u64
@@ -61,6 +61,20 @@ pub(crate) fn stamp_of(reply: Reply) -> Result<u32, PlaceRefusal>
 {
     match reply {
         Reply::Was(stamp) => Ok(stamp),
+        Reply::NoObject => Err(PlaceRefusal::NoObject),
+        Reply::NoField => Err(PlaceRefusal::NoField),
+        _ => unreachable!(),
+    }
+}
+
+/// What the reply to `cas` answers.
+pub(crate) fn swapped_of(reply: Reply) -> Result<Swapped, PlaceRefusal>
+    requires { AnswersCas reply }
+    ensures { cas_reply result ≡ reply }
+{
+    match reply {
+        Reply::Was(stamp) => Ok(Swapped::Was(stamp)),
+        Reply::Now(stamp) => Ok(Swapped::Now(stamp)),
         Reply::NoObject => Err(PlaceRefusal::NoObject),
         Reply::NoField => Err(PlaceRefusal::NoField),
         _ => unreachable!(),

@@ -24,8 +24,8 @@ use Rattle.heap_model.proofs.account_lemmas.Windows.{total_is_own_and_others, up
 use Rattle.press_alloc.specs.Calls.{IsNoReply, MovesNothing}
 use Rattle.press_alloc.specs.Refusals.{HoldsCycle}
 use Rattle.press_alloc.proofs.Collected.{begin_of}
-use Rattle.press_alloc.proofs.Fronts.{front_keeps_rules, back_keeps_rules, entry_keeps_rules}
-use Rattle.press_alloc.proofs.Sections.{up_to_last_stays, after_last_grows, total-append}
+use Rattle.heap_model.proofs.account_lemmas.Fronts.{front_keeps_rules, back_keeps_rules, entry_keeps_rules}
+use Rattle.heap_model.proofs.account_lemmas.Sections.{up_to_last_stays, after_last_grows, total-append}
 use Rattle.press_alloc.proofs.Silence.{all_of_parts, graph_stays, none_replies, nothing_taken, nothing_given, nothing_granted}
 
 -- entries that are no replies change nothing of the graph of a history

@@ -1,5 +1,3 @@
-pub mod Fronts
-pub mod Sections
 pub mod Seats
 pub mod Silence
 pub mod Calling

@@ -29,9 +29,9 @@ use Rattle.press_alloc.specs.Refusals.{ExceedsFragments, ExceedsWords, HasNoFrag
 use Rattle.press_alloc.proofs.Bounds.{fragments_left, words_left}
 use Rattle.press_alloc.proofs.Calling.{graph_after_refusal, graph_after_collect}
 use Rattle.press_alloc.proofs.Collected.{cycle_in_collect}
-use Rattle.press_alloc.proofs.Fronts.{front_is_legal, entry_keeps_rules}
+use Rattle.heap_model.proofs.account_lemmas.Fronts.{front_is_legal, entry_keeps_rules}
 use Rattle.press_alloc.proofs.Seats.{one_seat_tells_all}
-use Rattle.press_alloc.proofs.Sections.{total-append}
+use Rattle.heap_model.proofs.account_lemmas.Sections.{total-append}
 use Rattle.press_alloc.proofs.Silence.{adds_nothing, none_is_born, none_is_granted}
 
 -- no collect makes an object

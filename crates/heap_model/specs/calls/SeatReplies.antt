@@ -5,6 +5,8 @@ use Rattle.heap_model.specs.declared.id.Id.TheVariants.{Made}
 use Rattle.heap_model.specs.declared.id.Value.{Value}
 use Rattle.heap_model.specs.declared.reply.Reply.{Reply}
 use Rattle.heap_model.specs.declared.reply.Reply.TheVariants as replies
+use Rattle.heap_model.specs.declared.reply.Swapped.{Swapped}
+use Rattle.heap_model.specs.declared.reply.Swapped.TheVariants as swaps
 use Rattle.heap_model.specs.declared.refusal.Full.{Full}
 use Rattle.heap_model.specs.declared.refusal.NoObject.{NoObject}
 use Rattle.heap_model.specs.declared.refusal.PlaceRefusal.{PlaceRefusal}
@@ -40,6 +42,12 @@ get_reply (Err refusal) = refusal_reply refusal
 abbrev pub set_reply : Result ℕ PlaceRefusal → Reply
 set_reply (Ok stamp) = replies.Was stamp
 set_reply (Err refusal) = refusal_reply refusal
+
+-- the reply to `cas`
+abbrev pub cas_reply : Result Swapped PlaceRefusal → Reply
+cas_reply (Ok (swaps.Was stamp)) = replies.Was stamp
+cas_reply (Ok (swaps.Now stamp)) = replies.Now stamp
+cas_reply (Err refusal) = refusal_reply refusal
 
 -- the reply to `same`
 abbrev pub same_reply : Bool → Reply

@@ -1,16 +1,17 @@
 ghost use Rattle.std.specs.Prelude.{◌≡◌, ℕ, ◌+◌, ◌-◌, ◌≤◌, ◌^◌, ◌↔◌, length, IsTrue, IsErr, IfOk, IfErr, OnOk, OnErr, IfSome};
-ghost use Rattle.heap_model.specs.declared.command.Command.TheVariants.{New, Array, Get, Set, Num, Nil, Copy, Same, Len, Poll, Leave};
+ghost use Rattle.heap_model.specs.declared.command.Command.TheVariants.{New, Array, Get, Set, Cas, Num, Nil, Copy, Same, Len, Poll, Leave};
 ghost use Rattle.heap_model.specs.declared.reply.Reply.TheVariants.{Phase, Done};
 ghost use Rattle.heap_model.specs.Limits.{name_limit, stamp_limit};
 ghost use Rattle.heap_model.specs.Needs.{record_fragments};
 ghost use Rattle.heap_model.specs.calls.SeatState.{SeatState, own_graph_seat, held_value, HoldsNoObject, own_object};
 ghost use Rattle.heap_model.specs.calls.SeatCalls.{IsReady, Adds};
 ghost use Rattle.heap_model.specs.calls.SeatLaws.{IsSeat};
-ghost use Rattle.heap_model.specs.calls.SeatReplies.{record_reply, array_reply, get_reply, set_reply, same_reply, len_reply, next_id, LacksFragments, LacksSpace, KeepsNothing};
+ghost use Rattle.heap_model.specs.calls.SeatReplies.{record_reply, array_reply, get_reply, set_reply, cas_reply, same_reply, len_reply, next_id, LacksFragments, LacksSpace, KeepsNothing};
 
 use crate::fault::Memory;
 use crate::id::{Id, Value};
 use crate::refusal::{Full, NoObject, PlaceRefusal, SpaceRefusal};
+use crate::reply::Swapped;
 
 /// A seat of a heap, through which one mutator works. Registers are numbered 0 to 15, and register 0 is only read.
 /// No call but `room` takes memory.
@@ -53,6 +54,15 @@ pub trait SeatCalls {
     fn set(&mut self, r: u8, i: u32, v: u8) -> Result<u32, PlaceRefusal>
         requires { IsReady (state self.old) (Set r i v) }
         ensures added { Adds (state self.old) (state self.new) (Set r i v) (set_reply result) }
+        ensures no_object { (result ≡ Err PlaceRefusal.NoObject) ↔ HoldsNoObject (state self.old) r }
+        ensures no_field { IfSome (own_object (state self.old) r) (λ object.
+            (result ≡ Err PlaceRefusal.NoField) ↔ (length object.cells ≤ i)) };
+
+    /// Sets the cell `i` of what register `r` holds to the value of register `v`, exactly where it still has the value
+    /// and the stamp that register `a` was read with.
+    fn cas(&mut self, r: u8, i: u32, a: u8, v: u8) -> Result<Swapped, PlaceRefusal>
+        requires { IsReady (state self.old) (Cas r i a v) }
+        ensures added { Adds (state self.old) (state self.new) (Cas r i a v) (cas_reply result) }
         ensures no_object { (result ≡ Err PlaceRefusal.NoObject) ↔ HoldsNoObject (state self.old) r }
         ensures no_field { IfSome (own_object (state self.old) r) (λ object.
             (result ≡ Err PlaceRefusal.NoField) ↔ (length object.cells ≤ i)) };

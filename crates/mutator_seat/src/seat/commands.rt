@@ -1,19 +1,20 @@
 ghost use Rattle.std.specs.Prelude.{◌≡◌, ◌≤◌, ◌↔◌, length, IsTrue, IsErr, IfOk, IfErr, IfSome, OnOk, OnErr};
-ghost use Rattle.heap_model.specs.declared.command.Command.TheVariants.{New, Array, Get, Set, Num, Nil, Copy, Same, Len, Poll, Leave};
+ghost use Rattle.heap_model.specs.declared.command.Command.TheVariants.{New, Array, Get, Set, Cas, Num, Nil, Copy, Same, Len, Poll, Leave};
 ghost use Rattle.heap_model.specs.declared.reply.Reply.TheVariants.{Phase, Done};
 ghost use Rattle.heap_model.specs.Needs.{record_fragments};
 ghost use Rattle.heap_model.specs.calls.SeatCalls.{IsReady, Adds};
-ghost use Rattle.heap_model.specs.calls.SeatReplies.{record_reply, array_reply, get_reply, set_reply, same_reply, len_reply, next_id, LacksFragments, LacksSpace, KeepsNothing};
+ghost use Rattle.heap_model.specs.calls.SeatReplies.{record_reply, array_reply, get_reply, set_reply, cas_reply, same_reply, len_reply, next_id, LacksFragments, LacksSpace, KeepsNothing};
 ghost use Rattle.heap_model.specs.calls.SeatState.{held_value, HoldsNoObject, own_object};
 ghost use Rattle.mutator_seat.specs.Calls.{MakesCall};
 ghost use Rattle.mutator_seat.specs.Resting.{seat_state, MakesRoom};
 
-use crate::answers::{array_of, cell_of, equal_of, length_of, phase_of, record_of, stamp_of};
+use crate::answers::{array_of, cell_of, equal_of, length_of, phase_of, record_of, stamp_of, swapped_of};
 use crate::seat::Seat;
 use core_machine::ShowsLast;
 use heap_model::limits::STAMP_LIMIT;
 use heap_model::{
-    Command, Full, Id, Memory, NoObject, PlaceRefusal, SeatCalls, SpaceRefusal, Value,
+    Command, Full, Id, Memory, NoObject, PlaceRefusal, SeatCalls, SpaceRefusal, Swapped,
+    Value,
 };
 
 impl<L: ShowsLast> SeatCalls for Seat<L> {
@@ -72,6 +73,17 @@ impl<L: ShowsLast> SeatCalls for Seat<L> {
         ensures call { MakesCall self.old self.new (Set r i v) (set_reply result) }
     {
         stamp_of(self.reply_to(&Command::Set { r, i, v }))
+    }
+
+    fn cas(&mut self, r: u8, i: u32, a: u8, v: u8) -> Result<Swapped, PlaceRefusal>
+        requires { IsReady (seat_state self.old) (Cas r i a v) }
+        ensures added { Adds (seat_state self.old) (seat_state self.new) (Cas r i a v) (cas_reply result) }
+        ensures no_object { (result ≡ Err PlaceRefusal.NoObject) ↔ HoldsNoObject (seat_state self.old) r }
+        ensures no_field { IfSome (own_object (seat_state self.old) r) (λ object.
+            (result ≡ Err PlaceRefusal.NoField) ↔ (length object.cells ≤ i)) }
+        ensures call { MakesCall self.old self.new (Cas r i a v) (cas_reply result) }
+    {
+        swapped_of(self.reply_to(&Command::Cas { r, i, a, v }))
     }
 
     fn num(&mut self, d: u8, n: u32)

@@ -33,7 +33,9 @@ use Rattle.space_plan.specs.plan.Takes.{IsTaken, taken_since_end}
 use Rattle.space_plan.specs.plan.Totals.{IsGreatest, IsNeeded, IsReached, groups_for, is_full, need_told}
 use Rattle.space_plan.specs.plan.Seats.{unborn_at_replies}
 use Rattle.space_plan.proofs.plan_lemmas.CycleSums.{bound_is_sum, taken_since_end-more}
-use Rattle.space_plan.proofs.plan_lemmas.LegalFronts.{begun_before_end, has_last, keeps_after_front, no_last, parted_at_last, reserve_is_small}
+use Rattle.heap_model.proofs.account_lemmas.Fronts.{back_keeps_rules}
+use Rattle.heap_model.proofs.account_lemmas.LastEntries.{has_last, no_last, parted_at_last}
+use Rattle.space_plan.proofs.plan_lemmas.LegalFronts.{begun_before_end, reserve_is_small}
 use Rattle.space_plan.proofs.plan_lemmas.MomentLemmas.{passing_stands}
 
 -- each element has one that stands beside it
@@ -54,7 +56,7 @@ module _ (heap : Heap) (history : List Entry) (lines : List CyclePlan) (reach ta
     (most_reach : IsGreatest (IsReached heap history) reach) (most_takes : IsGreatest (IsTaken heap history) takes) (most_need : IsGreatest (IsNeeded history) need) where
   -- an entry keeps the rules after those before it
   keeps_at : (front : List Entry) (entry : Entry) (rest : List Entry) → history ≡ front ++ entry ∷ rest → KeepsSpace heap true front entry
-  keeps_at front entry rest parted = keeps_after_front heap [] front entry rest (subst (λ es. KeepsSpaceAfter heap true [] es) parted kept)
+  keeps_at front entry rest parted = (back_keeps_rules heap true [] front (entry ∷ rest) (subst (λ es. KeepsSpaceAfter heap true [] es) parted kept)).0
 
   -- the seats had a reserve each at most
   reserves_are_small : (front rest : List Entry) → history ≡ front ++ rest → unborn_at_replies heap front ≤ 15 * heap.seats

@@ -1,7 +1,7 @@
 -- What the rules of space say within a history that keeps them: at each entry, and of each seat after its replies.
 use Rattle.std.proofs.Common.{◌≡◌, ℕ, ◌+◌, ◌-◌, ◌≤◌, List, [], ◌∷◌, ◌++◌, inl, inr, Bool, true, false, ◌||◌, append_assoc, refl, sym, ap, ◌∙◌, subst, arith}
 use Rattle.std.specs.List.{list_any}
-use Rattle.std.proofs.lemmas.Bool.{cases_Bool, cond-true, cond-false, eqb-true}
+use Rattle.std.proofs.lemmas.Bool.{cases_Bool, cond-true, cond-false, eqb-true, or_parts}
 use Rattle.std.proofs.lemmas.List.{append-nil}
 use Rattle.heap_model.specs.declared.command.Command.{Command}
 use Rattle.heap_model.specs.declared.command.Command.TheVariants as commands
@@ -14,57 +14,9 @@ use Rattle.heap_model.specs.account.Account.{KeepsSpace, KeepsSpaceAfter, MakesO
 use Rattle.heap_model.specs.account.Space.{total_of, taken_of, spent_of, fragments_unborn, made_by}
 use Rattle.heap_model.specs.account.Windows.{begins_cycle, is_reply_to, up_to_last, after_last, up_to_reply}
 use Rattle.heap_model.proofs.Histories.{total-more, total_of-more}
-use Rattle.heap_model.proofs.account_lemmas.Windows.{window_sections_make_whole}
+use Rattle.heap_model.proofs.account_lemmas.Fronts.{front_keeps_rules, back_keeps_rules}
+use Rattle.heap_model.proofs.account_lemmas.LastEntries.{no_last, has_last, parted_at_last}
 use Rattle.reply_text.specs.write.Counts.{is_end}
-
--- an entry keeps the rules after those before it
-pub keeps_after_front : (heap : Heap) (before front : List Entry) (entry : Entry) (rest : List Entry) → KeepsSpaceAfter heap true before (front ++ entry ∷ rest) → KeepsSpace heap true (before ++ front) entry
-keeps_after_front heap before [] entry rest kept = subst (λ b. KeepsSpace heap true b entry) (sym (append-nil before)) kept.0
-keeps_after_front heap before (x ∷ front) entry rest kept =
-    subst (λ b. KeepsSpace heap true b entry) (append_assoc before (x ∷ []) front) (keeps_after_front heap (before ++ x ∷ []) front entry rest kept.1)
-
--- so do the entries of a front
-keeps_front : (heap : Heap) (before front rest : List Entry) → KeepsSpaceAfter heap true before (front ++ rest) → KeepsSpaceAfter heap true before front
-keeps_front heap before [] rest kept = tt
-keeps_front heap before (x ∷ front) rest kept = (kept.0, keeps_front heap (before ++ x ∷ []) front rest kept.1)
-
--- where no entry passes the test, all entries stand after the last that does
-pub no_last : (test : Entry → Bool) (history : List Entry) → list_any test history ≡ false → (up_to_last test history ≡ []) × (after_last test history ≡ history)
-no_last test [] none = (refl, refl)
-no_last test (x ∷ xs) none = (cond-false _ (x ∷ up_to_last test xs) [] none, cond-false _ (after_last test xs) (x ∷ xs) none)
-
--- the last entry that passes the test, and those before it
-pub record HasLast (test : Entry → Bool) (history : List Entry) : Type 0 where
-  pub front : List Entry
-  pub entry : Entry
-  pub passes : test entry ≡ true
-  pub is : up_to_last test history ≡ front ++ entry ∷ []
-
--- where some entry passes the test there is a last one
-pub has_last : (test : Entry → Bool) (history : List Entry) → list_any test history ≡ true → HasLast test history
-has_last test [] any = absurd (cc any)
-has_last test (x ∷ xs) any = elim (cases_Bool (list_any test xs)) [
-  | inl later ↦ (let rest = has_last test xs later in record {
-    front = x ∷ rest.front;
-    entry = rest.entry;
-    passes = rest.passes;
-    is = cond-true _ (x ∷ up_to_last test xs) [] any ∙ ap (λ es. x ∷ es) rest.is;
-  })
-  | inr none ↦ record {
-    front = [];
-    entry = x;
-    passes = here (test x) none any;
-    is = cond-true _ (x ∷ up_to_last test xs) [] any ∙ ap (λ es. x ∷ es) (no_last test xs none).0;
-  }
-]
-  where
-    here : (b : Bool) → list_any test xs ≡ false → list_any test (x ∷ xs) ≡ true → test x ≡ true
-    here b none any = grind (arith, none, any)
-
--- the history is the entries before that one, it, and those after it
-pub parted_at_last : (test : Entry → Bool) (history : List Entry) (last : HasLast test history) → history ≡ last.front ++ last.entry ∷ after_last test history
-parted_at_last test history last =
-    sym (window_sections_make_whole test history) ∙ ap (λ es. es ++ after_last test history) last.is ∙ append_assoc last.front (last.entry ∷ []) (after_last test history)
 
 most_kept_is_small : (command : Command) → most_kept command ≤ 15
 most_kept_is_small commands.Leave = omega arith
@@ -89,7 +41,7 @@ reserve_is_small heap history rest number kept = elim (cases_Bool (list_any (is_
   | inl any ↦ (let last = has_last (is_reply_to number) history any in
       let whole : history ++ rest ≡ last.front ++ last.entry ∷ (after_last (is_reply_to number) history ++ rest) =
       ap (λ es. es ++ rest) (parted_at_last (is_reply_to number) history last) ∙ append_assoc last.front (last.entry ∷ after_last (is_reply_to number) history) rest in
-      let keeps = keeps_after_front heap [] last.front last.entry _ (subst (λ es. KeepsSpaceAfter heap true [] es) whole kept) in
+      let keeps = (back_keeps_rules heap true [] last.front _ (subst (λ es. KeepsSpaceAfter heap true [] es) whole kept)).0 in
       subst (λ es. fragments_unborn number es ≤ 15) (sym last.is) (after_reply_is_small number last.front last.entry last.passes keeps.makes))
   | inr none ↦ subst (λ es. fragments_unborn number es ≤ 15) (sym (no_last (is_reply_to number) history none).0) (omega arith)
 ]
@@ -109,16 +61,12 @@ no_begin_no_phase heap before (entry ∷ rest) kept zeroth none =
     let parts = or_parts (begins_cycle entry) (list_any begins_cycle rest) none in
     ap phase (sym (append_assoc before (entry ∷ []) rest))
     ∙ no_begin_no_phase heap (before ++ entry ∷ []) rest kept.1 (omega (arith, total-more (λ e. e.phases) before entry, zeroth, quiet_entry heap before entry kept.0 zeroth parts.0)) parts.1
-  where
-    or_parts : (a b : Bool) → (a || b) ≡ false → (a ≡ false) × (b ≡ false)
-    or_parts true b none = absurd (cc none)
-    or_parts false b none = (refl, none)
 
 -- where a cycle ends, one has begun
 pub begun_before_end : (heap : Heap) (front : List Entry) (entry : Entry) (rest : List Entry) → KeepsSpaceAfter heap true [] (front ++ entry ∷ rest) → is_end entry ≡ true → list_any begins_cycle front ≡ true
 begun_before_end heap front entry rest kept ends = elim (cases_Bool (list_any begins_cycle front)) [
   | inl any ↦ any
-  | inr none ↦ absurd (late entry (keeps_after_front heap [] front entry rest kept) ends (no_begin_no_phase heap [] front (keeps_front heap [] front (entry ∷ rest) kept) refl none))
+  | inr none ↦ absurd (late entry (back_keeps_rules heap true [] front (entry ∷ rest) kept).0 ends (no_begin_no_phase heap [] front (front_keeps_rules heap true [] front (entry ∷ rest) kept) refl none))
 ]
   where
     late : (e : Entry) → KeepsSpace heap true front e → is_end e ≡ true → phase front ≡ 0 → ⊥
