@@ -1,6 +1,7 @@
 -- A step by its operation: what is allowed of the word that a step leaves is allowed of the one that its operation leaves.
-use Rattle.std.proofs.Common.{◌≡◌, ℕ, ◌+◌, ◌-◌, ◌^◌, ◌<◌, sym, ap, subst, arith}
-use Rattle.std.specs.Prelude.{slice_index}
+use Rattle.std.proofs.Common.{◌≡◌, ℕ, ◌+◌, ◌-◌, ◌^◌, ◌<◌, Bool, true, false, refl, sym, ap, subst, arith}
+use Rattle.std.specs.Prelude.{if◌then◌else◌, slice_index}
+use prog.Atomic.{either}
 use Rattle.atomic_table.specs.Table.{State as Table, Me, Allows, stepped}
 use Rattle.core_machine.specs.declared.step.Step.{Step}
 use Rattle.core_machine.specs.declared.step.operation.Operation.{Operation}
@@ -30,6 +31,11 @@ word_after_is_operations step operation is n = ap (λ (o : Operation). operation
 pub stored_word_is_told : (operation : Operation) (word : ℕ) (tells : ℕ → Me (Unit {0}) View → Type 0) → operation ≡ Store word → TellsStored operation tells
     → (n : ℕ) (after : Me (Unit {0}) View) → tells n after → tells word after
 stored_word_is_told operation word tells is stored = subst (λ (o : Operation). TellsStored o tells) is stored
+
+-- the word that stands after a comparison
+pub choice_is_either : (same : Bool) (new found : ℕ) → (if same then new else found) ≡ either same new found
+choice_is_either true new found = refl
+choice_is_either false new found = refl
 
 -- a number below 2^64 is taken from a word
 pub difference_moves_into_sum : (n k : ℕ) → k < 2 ^ 64 → n + 2 ^ 64 - k ≡ n + (2 ^ 64 - k)

@@ -39,6 +39,9 @@ pub(crate) fn touch<T: Telling, P>(
             new
         }
         Operation::Exchange(new) => table.swap::<Steps<T>>(token, word, new),
+        Operation::CompareExchange { old, new } => {
+            table.compare_exchange::<Steps<T>>(token, word, old, new)
+        }
         Operation::Or(bits) => table.fetch_or::<Steps<T>>(token, word, bits),
         Operation::And(bits) => table.fetch_and::<Steps<T>>(token, word, bits),
         Operation::Add(number) => table.fetch_add::<Steps<T>>(token, word, number),

@@ -1,6 +1,6 @@
 -- What the calls on fields, lengths and comparisons tell of what is the seat's own, as the trait says it.
 use Rattle.std.proofs.Common.{◌≡◌, ◌≢◌, ℕ, ◌<◌, ◌≤◌, Bool, true, false, Option, Some, None, Result, Ok, Err, length, refl, sym, ap, subst, ◌∙◌, inl, inr, arith}
-use Rattle.std.specs.Prelude.{◌↔◌, IfSome, IsTrue, IsErr}
+use Rattle.std.specs.Prelude.{◌↔◌, IfOk, IfSome, IsTrue, IsErr}
 use Rattle.heap_model.specs.calls.SeatReplies.{get_reply, set_reply, cas_reply, same_reply, len_reply}
 use Rattle.heap_model.specs.calls.SeatState.{held_value, IsNoObject, HoldsNoObject, own_object}
 use Rattle.heap_model.specs.declared.command.Command.{Command}
@@ -36,6 +36,7 @@ use Rattle.heap_table.specs.SeatHeld.{SeatHeld}
 use Rattle.mutator_seat.specs.Calls.{ToldIn, MakesCall}
 use Rattle.mutator_seat.specs.Replies.{AnswersGet, AnswersSet, IsReplyTo}
 use Rattle.mutator_seat.specs.Resting.{seat_state, Rests}
+use Rattle.mutator_seat.specs.Swaps.{FindsBySwap}
 use Rattle.mutator_seat.proofs.Replied.{reply_is_to_command}
 use Rattle.mutator_seat.proofs.Refusals.{register_told, refused_without, none_of_own, IsOwnMeta, meta_of_own, refused_past}
 
@@ -99,6 +100,25 @@ module _ (old new : SeatHeld) (r i a v : ℕ) (result : Result Swapped PlaceRefu
 
   pub cas_refused_past_end : IfSome (own_object (seat_state old) r) (λ object. (result ≡ Err refusals.NoField) ↔ (length object.cells ≤ i))
   cas_refused_past_end = past_exactly cas_reply refl refl swap_other (λ object. length object.cells ≤ i) (own_object (seat_state old) r) result (refused_past old new (commands.Cas r i a v) (cas_reply result) call tt tt)
+
+  pub cas_finds_by_swap : IfOk result (FindsBySwap old new (commands.Cas r i a v))
+  cas_finds_by_swap = swap_finds result call
+    where
+      swap_finds : (result : Result Swapped PlaceRefusal) → MakesCall old new (commands.Cas r i a v) (cas_reply result) → IfOk result (FindsBySwap old new (commands.Cas r i a v))
+      swap_finds (Ok (swaps.Was stamp)) call = record {
+        made = call.made;
+        makes = call.makes;
+        found = elim call.stands [
+          | inl is ↦ absurd is.a_set
+          | inr is ↦ (is.compared, is.stamp_is)
+        ];
+      }
+      swap_finds (Ok (swaps.Now stamp)) call = record {
+        made = call.made;
+        makes = call.makes;
+        found = (call.stands.word, call.stands.compared, call.stands.other, call.stands.stamp_is);
+      }
+      swap_finds (Err refusal) call = tt
 
 -- of a len
 module _ (old new : SeatHeld) (r : ℕ) where

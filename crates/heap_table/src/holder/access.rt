@@ -1,5 +1,5 @@
 ghost use Rattle.core_machine.specs.declared.step.Step.TheVariants.{Access};
-ghost use Rattle.core_machine.specs.declared.step.AccessStep.TheVariants.{WalkLoad, GetLoad, OldLoad, Shade, Swap};
+ghost use Rattle.core_machine.specs.declared.step.AccessStep.TheVariants.{WalkLoad, GetLoad, OldLoad, Shade, Swap, CompareSwap};
 ghost use Rattle.heap_table.specs.SeatHeld.{MayStep, StepFinds, IsStepped};
 
 use crate::holder::Holder;
@@ -48,6 +48,19 @@ impl<L: Entries> Holder<L> {
             fragment,
             part,
             word,
+        }))
+    }
+
+    /// Exchanges a field's word for the new one, where it is the old one.
+    pub fn compare_swap(&mut self, fragment: u16, part: u8, old: u64, new: u64) -> u64
+        requires { MayStep self.old (Access (CompareSwap fragment part old new)) }
+        ensures { StepFinds self.old self.new result }
+    {
+        self.found_by(&Step::Access(AccessStep::CompareSwap {
+            fragment,
+            part,
+            old,
+            new,
         }))
     }
 }

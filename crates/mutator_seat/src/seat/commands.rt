@@ -7,14 +7,16 @@ ghost use Rattle.heap_model.specs.calls.SeatReplies.{record_reply, array_reply, 
 ghost use Rattle.heap_model.specs.calls.SeatState.{held_value, HoldsNoObject, own_object};
 ghost use Rattle.mutator_seat.specs.Calls.{MakesCall};
 ghost use Rattle.mutator_seat.specs.Resting.{seat_state, MakesRoom};
+ghost use Rattle.mutator_seat.specs.Swaps.{FindsBySwap};
 
-use crate::answers::{array_of, cell_of, equal_of, length_of, phase_of, record_of, stamp_of, swapped_of};
+use crate::answers::{
+    array_of, cell_of, equal_of, length_of, phase_of, record_of, stamp_of, swapped_of,
+};
 use crate::seat::Seat;
 use core_machine::ShowsLast;
 use heap_model::limits::STAMP_LIMIT;
 use heap_model::{
-    Command, Full, Id, Memory, NoObject, PlaceRefusal, SeatCalls, SpaceRefusal, Swapped,
-    Value,
+    Command, Full, Id, Memory, NoObject, PlaceRefusal, SeatCalls, SpaceRefusal, Swapped, Value,
 };
 
 impl<L: ShowsLast> SeatCalls for Seat<L> {
@@ -82,6 +84,7 @@ impl<L: ShowsLast> SeatCalls for Seat<L> {
         ensures no_field { IfSome (own_object (seat_state self.old) r) (λ object.
             (result ≡ Err PlaceRefusal.NoField) ↔ (length object.cells ≤ i)) }
         ensures call { MakesCall self.old self.new (Cas r i a v) (cas_reply result) }
+        ensures found { IfOk result (FindsBySwap self.old self.new (Cas r i a v)) }
     {
         swapped_of(self.reply_to(&Command::Cas { r, i, a, v }))
     }

@@ -1,8 +1,9 @@
-use Rattle.std.proofs.Common.{◌+◌, ◌-◌, ◌%◌, ◌^◌, sym, ap, ◌∙◌, bit_and, bit_or}
-use Rattle.core_machine.specs.declared.step.operation.Operation.TheVariants.{Load, Store, Exchange, Or, And, Add, Subtract}
+use Rattle.std.proofs.Common.{◌+◌, ◌-◌, ◌%◌, ◌^◌, ◌==◌, sym, ap, ◌∙◌, bit_and, bit_or}
+use prog.Atomic.{either}
+use Rattle.core_machine.specs.declared.step.operation.Operation.TheVariants.{Load, Store, Exchange, CompareExchange, Or, And, Add, Subtract}
 use Rattle.core_machine.specs.table.Layout.{index_of}
 use Rattle.heap_table.specs.Told.{Tells}
-use Rattle.heap_table.proofs.Performed.{allows_by_equal_word, allows_store_of_word, word_after_is_operations, stored_word_is_told, difference_moves_into_sum}
+use Rattle.heap_table.proofs.Performed.{allows_by_equal_word, allows_store_of_word, word_after_is_operations, stored_word_is_told, choice_is_either, difference_moves_into_sum}
 use Rattle.heap_table.proofs.touch.touch.Goals as goal
 
 pub load-requires : goal.load-requires
@@ -28,6 +29,17 @@ swap-requires g c =
       c.requires.table,
       rw c.requires.size (c.index-word.ensures.within.0 (rw c.touch-address.ensures.address c.requires.word)),
       allows_by_equal_word _ _ _ _ _ _ _ tells (c.index-word.ensures.index ∙ ap (index_of c.args.heap.now) c.touch-address.ensures.address) (λ n. c.in-Exchange.new) (word_after_is_operations _ (Exchange c.in-Exchange.new) (sym c.touch-address.ensures.operation ∙ c.in-Exchange.is)) c.requires.rule,
+    )
+
+pub compare_exchange-requires : goal.compare_exchange-requires
+compare_exchange-requires g c =
+    let tells = Tells g.T.Telling.becomes g.T.Telling.told c.args.token.now.me in
+    let old = c.in-CompareExchange.old in
+    let new = c.in-CompareExchange.new in (
+      c.requires.table,
+      rw c.requires.size (c.index-word.ensures.within.0 (rw c.touch-address.ensures.address c.requires.word)),
+      allows_by_equal_word _ _ _ _ _ _ _ tells (c.index-word.ensures.index ∙ ap (index_of c.args.heap.now) c.touch-address.ensures.address) (λ n. either (n == old) new n)
+          (λ n. word_after_is_operations _ (CompareExchange old new) (sym c.touch-address.ensures.operation ∙ c.in-CompareExchange.is) n ∙ choice_is_either (n == old) new n) c.requires.rule,
     )
 
 pub fetch_or-requires : goal.fetch_or-requires
