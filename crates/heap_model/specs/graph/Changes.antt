@@ -1,5 +1,5 @@
 -- How a graph changes: another register or cell, one more object or set, a seat that leaves.
-use Rattle.std.specs.Prelude.{ℕ, ◌+◌, ◌*◌, true, false, [], ◌∷◌, ◌++◌, length, replicate, slice_index_or, slice_set}
+use Rattle.std.specs.Prelude.{ℕ, ◌+◌, ◌-◌, ◌*◌, ◌/◌, ◌%◌, true, false, [], ◌∷◌, ◌++◌, length, replicate, slice_index_or, slice_set}
 use Rattle.heap_model.specs.Limits.{register_count, stamp_limit}
 use Rattle.heap_model.specs.declared.id.Id.TheVariants.{Board, Made}
 use Rattle.heap_model.specs.declared.id.Value.{Value}
@@ -41,6 +41,14 @@ write g (Object (Made other count)) i cell = with_graph_seat g other (with_objec
 -- the stamp of the n-th set of a seat, its cas that swapped counted too
 abbrev pub set_stamp : ℕ → ℕ → ℕ
 set_stamp number n = (number + 1) * stamp_limit + n
+
+-- the seat that set a cell with this stamp
+abbrev pub stamp_seat : ℕ → ℕ
+stamp_seat stamp = stamp / stamp_limit - 1
+
+-- and which of its sets that was
+abbrev pub stamp_count : ℕ → ℕ
+stamp_count stamp = stamp % stamp_limit
 
 -- the graph in which the seat did one more set, or one more cas that swapped
 abbrev pub count_set : Graph → ℕ → Graph

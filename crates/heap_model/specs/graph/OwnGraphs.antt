@@ -1,11 +1,11 @@
 -- What the graph of a seat's own entries has of the graph of all entries.
-use Rattle.std.specs.Prelude.{◌≡◌, ◌≢◌, ℕ, Bool, List, [], length, map, filter}
+use Rattle.std.specs.Prelude.{◌≡◌, ◌≢◌, ℕ, Bool, List, [], length, map}
 use Rattle.heap_model.specs.account.Cycles.{graph_of}
-use Rattle.heap_model.specs.account.Effects.{is_of}
 use Rattle.heap_model.specs.declared.entry.Entry.{Entry}
 use Rattle.heap_model.specs.declared.heap.Heap.{Heap}
 use Rattle.heap_model.specs.graph.Graph.{Graph, GraphSeat, Node}
 use Rattle.heap_model.specs.graph.Objects.{graph_seat}
+use Rattle.heap_model.specs.Logs.{log_of}
 
 -- what stays of an object for ever: whether it is an array, and how many cells it has
 pub record Shape : Type 0 where
@@ -36,4 +36,4 @@ pub record IsSeatsSubgraph (number : ℕ) (own whole : Graph) : Type 0 where
 
 -- after every history the graph of a seat's own entries has of the seat what the graph of all entries has
 unfoldable pub EachOwnGraphIsWithin : Type 0
-EachOwnGraphIsWithin = (heap : Heap) (history : List Entry) (number : ℕ) → IsSeatsSubgraph number (graph_of heap (filter (is_of number) history)) (graph_of heap history)
+EachOwnGraphIsWithin = (heap : Heap) (history : List Entry) (number : ℕ) → IsSeatsSubgraph number (graph_of heap (log_of number history)) (graph_of heap history)

@@ -1,6 +1,6 @@
 -- The words that spell an entry.
-use Rattle.std.specs.Prelude.{ℕ, ◌-◌, ◌/◌, ◌%◌, ◌==◌, if◌then◌else◌, List, [], ◌∷◌, ◌++◌, codes, decimal}
-use Rattle.heap_model.specs.Limits.{stamp_limit}
+use Rattle.std.specs.Prelude.{ℕ, ◌==◌, if◌then◌else◌, List, [], ◌∷◌, ◌++◌, codes, decimal}
+use Rattle.heap_model.specs.graph.Changes.{stamp_seat, stamp_count}
 use Rattle.heap_model.specs.declared.id.Id.{Id}
 use Rattle.heap_model.specs.declared.id.Id.TheVariants.{Board, Made}
 use Rattle.heap_model.specs.declared.id.Value.{Value}
@@ -21,7 +21,7 @@ id_word (Made seat count) = decimal seat ++ codes "." ++ decimal count
 
 -- the word of a stamp: none, or the seat that set the cell and the count of that set
 abbrev pub stamp_word : ℕ → List ℕ
-stamp_word stamp = if stamp == 0 then codes "-" else decimal (stamp / stamp_limit - 1) ++ codes ":" ++ decimal (stamp % stamp_limit)
+stamp_word stamp = if stamp == 0 then codes "-" else decimal (stamp_seat stamp) ++ codes ":" ++ decimal (stamp_count stamp)
 
 -- the words of a value
 abbrev pub value_words : Value → List (List ℕ)
