@@ -1,5 +1,5 @@
 -- What is left of the logs has an order in which it is legal, and its first entry is ready.
-use Rattle.std.proofs.Common.{◌≡◌, ℕ, ◌<◌, inl, inr, true, false, List, [], ◌∷◌, ◌++◌, length, get_or, Some, is_none, refl, sym, ap, ◌∙◌, subst, arith, length-set}
+use Rattle.std.proofs.Common.{◌≡◌, ℕ, ◌<◌, inl, inr, true, false, List, [], ◌∷◌, ◌++◌, length, Some, is_none, refl, sym, ap, ◌∙◌, subst, arith, length-set}
 use Rattle.std.specs.List.{filter}
 use Rattle.std.proofs.lemmas.Bool.{cases_lt, cases_Bool, eqb-true, eq-eqb, both_ways}
 use Rattle.std.proofs.lemmas.List.{length-replicate}
@@ -18,14 +18,14 @@ use Rattle.heap_model.specs.declared.entry.Entry.TheVariants as entries
 use Rattle.heap_model.specs.account.Effects.{is_of}
 use Rattle.heap_model.specs.account.Noting.{seat_of}
 use Rattle.heap_model.specs.account.Cycles.{graph_of}
-use Rattle.heap_model.specs.graph.Objects.{register_value, opening}
-use Rattle.heap_model.specs.graph.Graph.{Graph, unset, opening_graph_seat}
+use Rattle.heap_model.specs.graph.Objects.{opening}
+use Rattle.heap_model.specs.graph.Graph.{Graph, opening_graph_seat}
 use Rattle.heap_model.specs.graph.Changes.{write}
 use Rattle.heap_model.specs.graph.Growth.{after_entry, after_reply, graph_after}
 use Rattle.heap_model.specs.graph.Legal.{Accepts, AcceptsAll}
 use Rattle.log_merge.specs.Merging.{is_in_log, part_of, left_of, IsGetOf, Writes, HasGet, HasPendingGet, IsReady}
 use Rattle.log_merge.specs.Placing.{IsCompletion}
-use Rattle.log_merge.proofs.merge_lemmas.Changes.{Own, own, own_after, change_of, seat_changed, after_reply-changed, own-changed}
+use Rattle.log_merge.proofs.merge_lemmas.Changes.{own, own_after, change_of, seat_changed, after_reply-changed, own-changed}
 use Rattle.log_merge.proofs.merge_lemmas.Sound.{IsSound}
 use Rattle.log_merge.proofs.merge_lemmas.Finding.{present_seat_is_there, IsSound-opening, IsSound-after, own_seat_stays_by_other, NoGets, IsGone-written, NoGets-gone}
 use Rattle.log_merge.proofs.merge_lemmas.Touching.{gets_elsewhere}
