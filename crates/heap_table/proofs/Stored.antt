@@ -2,7 +2,7 @@
 use Rattle.std.proofs.Common.{◌≡◌, ℕ, refl}
 use Rattle.atomic_table.specs.Table.{Me}
 use Rattle.core_machine.specs.declared.step.operation.Operation.{Operation}
-use Rattle.core_machine.specs.declared.step.operation.Operation.TheVariants.{Load, Store, Exchange, Or, And, Add, Subtract}
+use Rattle.core_machine.specs.declared.step.operation.Operation.TheVariants.{Load, Store, Exchange, CompareExchange, Or, And, Add, Subtract}
 use Rattle.heap_table.specs.Told.{TellsStored}
 use Rattle.heap_table.specs.declared.view.View.{View}
 
@@ -12,6 +12,7 @@ pub tells_stored_of_store : (operation : Operation) (tells : ℕ → Me (Unit {0
 tells_stored_of_store Load tells of_store = tt
 tells_stored_of_store (Store word) tells of_store = of_store word refl
 tells_stored_of_store (Exchange word) tells of_store = tt
+tells_stored_of_store (CompareExchange old new) tells of_store = tt
 tells_stored_of_store (Or bits) tells of_store = tt
 tells_stored_of_store (And bits) tells of_store = tt
 tells_stored_of_store (Add k) tells of_store = tt
