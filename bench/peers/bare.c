@@ -59,6 +59,25 @@ static void sets(void) {
     }
 }
 
+/* A compare and swap loads the meta and compares the field. Each but the first finds another word. */
+static void swaps(void) {
+    for (unsigned i = 0; i < CALLS; i++) {
+        uint64_t old = 0;
+        sink = atomic_load(word(11, 0));
+        sink = atomic_compare_exchange_strong(word(11, 2), &old, i + 1);
+    }
+}
+
+/* A get, and then one that finds the word that was got. */
+static void pairs(void) {
+    for (unsigned i = 0; i < CALLS; i++) {
+        sink = atomic_load(word(11, 0));
+        uint64_t old = atomic_load(word(11, 2));
+        sink = atomic_load(word(11, 0));
+        sink = atomic_compare_exchange_strong(word(11, 2), &old, i + 1);
+    }
+}
+
 /* A call that changes registers alone loads the phase. */
 static void locals(void) {
     for (unsigned i = 0; i < CALLS; i++)
@@ -138,6 +157,8 @@ int main(void) {
     told("new", records);
     told("get", gets);
     told("set", sets);
+    told("cas", swaps);
+    told("pair", pairs);
     told("num", locals);
     told("array", arrays);
     uint64_t least = UINT64_MAX;

@@ -13,3 +13,8 @@ pub record IsSameSeat (old new : SeatHeld) : Type 0 where
 pub record IsOfTable (collector : CollectorHeld) (held : SeatHeld) : Type 0 where
   pub same_table : held.table ≡ collector.table
   pub same_heap : held.heap ≡ collector.heap
+
+-- it holds the same table's collector
+pub record IsSameTable (old new : CollectorHeld) : Type 0 where
+  pub same_table : new.table ≡ old.table
+  pub same_heap : new.heap ≡ old.heap

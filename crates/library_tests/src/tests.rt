@@ -12,5 +12,6 @@ mod merges;
 mod paces;
 mod scripts;
 mod streams;
+mod swaps;
 mod table;
 mod words;

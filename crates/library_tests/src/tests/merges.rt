@@ -8,6 +8,7 @@ ghost use Rattle.heap_model.specs.account.Noting.{is_collectors};
 ghost use Rattle.heap_model.specs.graph.Legal.{IsObjectLegal};
 
 use super::comparing::same;
+use super::swaps::{FIRST, READ, swap};
 use heap_model::{Command, Entry, Graph, Heap, Memory, Reply, Value};
 use log_merge::merge;
 use reply_text::read_history;
@@ -54,7 +55,7 @@ fn logs_of(alloc: Global, heap: Heap, entries: &[Entry]) -> Result<Vec<Vec<Entry
 }
 
 // Lets a graph grow by the entries, in this order.
-fn accept(alloc: Global, heap: Heap, entries: &[Entry]) -> Result<(), Fail>
+pub(super) fn accept(alloc: Global, heap: Heap, entries: &[Entry]) -> Result<(), Fail>
     requires { IsHeap heap }
     ensures { OnOk result (IsObjectLegal heap entries.now) }
 {
@@ -108,16 +109,6 @@ fn said(seat: u8, command: Command, reply: Reply) -> Entry {
     }
 }
 
-// The value of register 1 into the board's field 3, where the field is as register `a` was read.
-fn swap(a: u8) -> Command {
-    Command::Cas {
-        r: 0,
-        i: 3,
-        a,
-        v: 1,
-    }
-}
-
 // No text has a cas. One that swaps waits for those of other logs that found the field before it and left it, and for gets as a set does.
 #[test]
 fn puts_a_cas_that_left_the_field_first(rt: HostRuntime) -> Result<(), Fail> {
@@ -127,13 +118,13 @@ fn puts_a_cas_that_left_the_field_first(rt: HostRuntime) -> Result<(), Fail> {
     let swapped = said(0, swap(5), Reply::Was(0));
     let got = said(
         1,
-        Command::Get { d: 2, r: 0, i: 3 },
+        READ,
         Reply::Got {
             value: Value::Nil,
             stamp: 0,
         },
     );
-    let later = said(1, swap(2), Reply::Now(0x400_0001));
+    let later = said(1, swap(2), Reply::Now(FIRST));
     for (given, wanted) in [
         (
             [number(1, 6), left, got, number(0, 5), swapped, later],

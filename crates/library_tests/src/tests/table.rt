@@ -1,8 +1,8 @@
 //! The table that threads share: two seats work in threads of their own, and when all is closed what they have told goes together.
 
-ghost use Rattle.std.specs.Prelude.{◌≡◌, IfOk};
+ghost use Rattle.std.specs.Prelude.{◌≡◌, IfOk, IfSome};
 ghost use Rattle.heap_model.specs.Heap.{IsHeap};
-ghost use Rattle.library_tests.specs.SameSeat.{IsSameSeat};
+ghost use Rattle.library_tests.specs.SameSeat.{IsOfTable, IsSameSeat, IsSameTable};
 
 use super::call_steps::make_long_record;
 use super::comparing::{holds, same};
@@ -84,8 +84,8 @@ fn made(entries: &[Entry]) -> usize {
 
 /// Folds a seat in, if it has left.
 fn fold(collector: &mut CollectorHolder, holder: Holder)
-    requires { (holder.table ≡ collector.old.table) × (holder.heap ≡ collector.old.heap) }
-    ensures { (collector.new.table ≡ collector.old.table) × (collector.new.heap ≡ collector.old.heap) }
+    requires { IsOfTable collector.old holder }
+    ensures { IsSameTable collector.old collector.new }
 {
     if holder.party().left() {
         collector.fold_in(holder);
@@ -113,6 +113,29 @@ fn in_two_threads<R: Threads>(
     )
 }
 
+/// Closes the table of these two seats, if they have left.
+pub(super) fn close_two(
+    alloc: Global,
+    collector: CollectorHolder,
+    first: Holder,
+    second: Holder,
+) -> Result<Option<Closed>, Memory>
+    requires first { IsOfTable collector first }
+    requires second { IsOfTable collector second }
+    ensures { IfOk result (λ closed. IfSome closed (λ table. table.heap ≡ collector.heap)) }
+{
+    let mut collector = collector;
+    fold(&mut collector, first);
+    fold(&mut collector, second);
+    if !collector.all_folded() {
+        return Ok(None);
+    }
+    match collector.close(alloc) {
+        Ok(closed) => Ok(Some(closed)),
+        Err(_) => Err(Memory),
+    }
+}
+
 /// Two seats of a heap work so; then all is closed.
 pub(super) fn run_two<R: Threads>(
     rt: &R,
@@ -122,7 +145,7 @@ pub(super) fn run_two<R: Threads>(
 ) -> Result<Option<Closed>, Memory>
     requires { IsHeap heap }
 {
-    let (mut holders, mut collector) = HeapTable::make::<Log, Log>(alloc, heap)?;
+    let (mut holders, collector) = HeapTable::make::<Log, Log>(alloc, heap)?;
     let Some(second) = holders.pop() else {
         return Ok(None);
     };
@@ -130,17 +153,7 @@ pub(super) fn run_two<R: Threads>(
         return Ok(None);
     };
     let (one, other) = in_two_threads(rt, first, second, task);
-    let one = one?;
-    let other = other?;
-    fold(&mut collector, one);
-    fold(&mut collector, other);
-    if !collector.all_folded() {
-        return Ok(None);
-    }
-    match collector.close(alloc) {
-        Ok(closed) => Ok(Some(closed)),
-        Err(_) => Err(Memory),
-    }
+    close_two(alloc, collector, one?, other?)
 }
 
 #[test]

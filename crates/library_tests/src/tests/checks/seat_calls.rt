@@ -13,6 +13,8 @@ use std::test::Fail;
 mod calling;
 mod opening;
 mod playing;
+mod racing;
+mod swaps;
 
 /// What a seat does that is alone on a heap of one group and six spine words, and how many objects it has made and sets
 /// it has done then. The board leaves 5 fragments.

@@ -3,49 +3,16 @@
 use super::calls::{begin, call, machine_of, step, turn};
 use super::texts::step_text;
 use crate::tests::comparing::{holds, same};
-use heap_model::Command::{self, Cas, Copy, Get, New, Num, Poll, Set};
-use heap_model::Reply::{self, Done, Got, Now, Phase, Was};
-use heap_model::Value;
+use crate::tests::swaps::answers;
+use heap_model::Command::{Cas, Get, New, Poll, Set};
+use heap_model::Reply::Phase;
 use std::test::Fail;
 
-/// The first stamps of the two seats.
-const FIRST: u32 = 0x400_0001;
-
-const OTHERS: u32 = 0x800_0001;
-
-/// The value of register 1 goes into the board's field 3, where that is as this register was read.
-fn replace(a: u8) -> Command {
-    let (r, i, v) = (0, 3, 1);
-    Cas { r, i, a, v }
-}
-
-/// A number that is read from there.
-fn read(n: u32, stamp: u32) -> (Command, Reply) {
-    let found = Got {
-        value: Value::Number(n),
-        stamp,
-    };
-    (Get { d: 2, r: 0, i: 3 }, found)
-}
-
 #[test]
-fn replaces_what_was_read(rt: HostRuntime) -> Result<(), Fail> {
+fn answers_as_due(rt: HostRuntime) -> Result<(), Fail> {
     let alloc = rt.alloc();
     let mut machine = machine_of(alloc, 1, 0, 2)?;
-    for (seat, (command, reply)) in [
-        (0, (Num { d: 1, n: 5 }, Done)),
-        (1, (Num { d: 1, n: 6 }, Done)),
-        (0, (replace(5), Was(0))),
-        (1, (replace(5), Now(FIRST))),
-        (1, read(5, FIRST)),
-        (1, (replace(2), Was(FIRST))),
-        (0, read(6, OTHERS)),
-        // A copy is read as the register was, a number as none.
-        (0, (Copy { d: 3, r: 2 }, Done)),
-        (0, (Num { d: 2, n: 6 }, Done)),
-        (0, (replace(2), Now(OTHERS))),
-        (0, (replace(3), Was(OTHERS))),
-    ] {
+    for (seat, command, reply) in answers() {
         let at = format!(in alloc; "{seat} {command:?}")?;
         same(&rt, &call(&mut machine, seat, &command)?, &reply, &at);
     }

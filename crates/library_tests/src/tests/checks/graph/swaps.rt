@@ -1,45 +1,22 @@
 //! Compare and swap: a cas puts its value in exactly where the cell is as its register was read.
 
 use crate::tests::comparing::same;
+use crate::tests::swaps::{FIRST, OTHERS, OTHERS_NEXT, number, swap};
 use heap_model::Command::{self, Cas, Get, New, Num, Set};
 use heap_model::Reply::{self, Done, Got, Made, NoField, NoObject, Now, Was};
 use heap_model::{ApplyFault, Entry, Graph, Heap, Id, Value};
 use std::test::Fail;
 
-/// The first seat's first three stamps, and the second's first two.
-const FIRST: u32 = 0x400_0001;
-
+/// The first seat's next two stamps.
 const SECOND: u32 = 0x400_0002;
 
 const THIRD: u32 = 0x400_0003;
 
-const OTHERS: u32 = 0x800_0001;
-
-const OTHERS_NEXT: u32 = 0x800_0002;
-
 const OBJECT: Id = Id::Made { seat: 0, count: 0 };
-
-/// A cas of the board's field 3: the value of register 1, where the field is as register `a` was read.
-fn swap(a: u8) -> Command {
-    Cas {
-        r: 0,
-        i: 3,
-        a,
-        v: 1,
-    }
-}
 
 /// A get of a field of the board.
 fn get(d: u8, i: u32) -> Command {
     Get { d, r: 0, i }
-}
-
-/// The reply to a get that finds a number.
-fn number(n: u32, stamp: u32) -> Reply {
-    Got {
-        value: Value::Number(n),
-        stamp,
-    }
 }
 
 /// A cas of a field of what register `r` holds: the value of register 2, where the field is as register 5 was read.

@@ -1,22 +1,25 @@
 //! A call of a seat by a command, with the reply that its answer stands for.
 
 ghost use Rattle.std.specs.Prelude.{IsTrue};
+ghost use Rattle.core_machine.specs.seat.Commands.{IsServed};
 ghost use Rattle.heap_model.specs.calls.SeatCalls.{IsReady};
 
 use heap_model::{
-    Command, Full, Id, NoObject, PlaceRefusal, Reply, SeatCalls, SpaceRefusal, Value,
+    Command, Full, Id, NoObject, PlaceRefusal, Reply, SeatCalls, SpaceRefusal, Swapped, Value,
 };
 
 /// Whether the seat may be called by the command.
 pub fn may_call<S: SeatCalls>(seat: &S, command: &Command) -> bool
-    ensures { IsTrue result → IsReady (S.state seat.now) command.now }
+    ensures ready { IsTrue result → IsReady (S.state seat.now) command.now }
+    ensures served { IsTrue result → IsServed command.now }
 {
     let room = 2 * command.need() as usize + 4;
     let counts = seat.names_left() > 0 && seat.stamps_left() > 0;
-    command.is_in_range() && !seat.left() && seat.spare() >= room && counts
+    let served = !matches!(command, Command::Collect) && command.is_in_range();
+    served && !seat.left() && seat.spare() >= room && counts
 }
 
-/// Calls the seat by the command; none by a collect, which is no one call, nor by a cas, for which there is none yet.
+/// Calls the seat by the command; none by a collect, which is no one call.
 pub fn call<S: SeatCalls>(seat: &mut S, command: Command) -> Option<Reply>
     requires { IsReady (S.state seat.old) command }
 {
@@ -25,6 +28,7 @@ pub fn call<S: SeatCalls>(seat: &mut S, command: Command) -> Option<Reply>
         Command::Array { d, cells } => array_reply(seat.new_array(d, cells)),
         Command::Get { d, r, i } => get_reply(seat.get(d, r, i)),
         Command::Set { r, i, v } => set_reply(seat.set(r, i, v)),
+        Command::Cas { r, i, a, v } => cas_reply(seat.cas(r, i, a, v)),
         Command::Num { d, n } => {
             seat.num(d, n);
             Reply::Done
@@ -40,7 +44,7 @@ pub fn call<S: SeatCalls>(seat: &mut S, command: Command) -> Option<Reply>
         Command::Same { a, b } => same_reply(seat.same(a, b)),
         Command::Len { r } => len_reply(seat.len(r)),
         Command::Poll => Reply::Phase(seat.poll()),
-        Command::Cas { .. } | Command::Collect => return None,
+        Command::Collect => return None,
         Command::Leave => {
             seat.leave();
             Reply::Done
@@ -81,6 +85,14 @@ fn get_reply(answer: Result<(Value, u32), PlaceRefusal>) -> Reply {
 fn set_reply(answer: Result<u32, PlaceRefusal>) -> Reply {
     match answer {
         Ok(stamp) => Reply::Was(stamp),
+        Err(refusal) => refusal_reply(refusal),
+    }
+}
+
+fn cas_reply(answer: Result<Swapped, PlaceRefusal>) -> Reply {
+    match answer {
+        Ok(Swapped::Was(stamp)) => Reply::Was(stamp),
+        Ok(Swapped::Now(stamp)) => Reply::Now(stamp),
         Err(refusal) => refusal_reply(refusal),
     }
 }

@@ -1,9 +1,13 @@
-//! A seat that is alone on its table, and the table's collector.
+//! The seats of a table that opens, and the table's collector.
+
+ghost use Rattle.std.specs.Prelude.{◌≡◌, OnOk};
+ghost use Rattle.heap_model.specs.Heap.{IsHeap};
+ghost use Rattle.library_tests.specs.SameSeat.{IsOfTable};
 
 use collector_turns::Collector;
 use core_machine::Log;
 use heap_model::Heap;
-use heap_table::HeapTable;
+use heap_table::{CollectorHolder, HeapTable};
 use mutator_seat::Seat;
 use std::alloc::Global;
 use std::test::Fail;
@@ -16,4 +20,21 @@ pub fn opening(alloc: Global) -> Result<(Seat, Collector), Fail> {
         return Err(Fail::new("no seat"));
     };
     Ok((Seat::make(holder), Collector::make(collector)))
+}
+
+/// The two seats of a heap that opens, and the heap's collector.
+pub fn two_seats(alloc: Global, heap: Heap) -> Result<(Seat, Seat, CollectorHolder), Fail>
+    requires limits { IsHeap heap }
+    ensures first { OnOk result (λ parties. IsOfTable parties.2 parties.0) }
+    ensures second { OnOk result (λ parties. IsOfTable parties.2 parties.1) }
+    ensures heap { OnOk result (λ parties. parties.2.heap ≡ heap) }
+{
+    let (mut holders, collector) = HeapTable::make::<Log, Log>(alloc, heap)?;
+    let Some(second) = holders.pop() else {
+        return Err(Fail::new("no seat"));
+    };
+    let Some(first) = holders.pop() else {
+        return Err(Fail::new("one seat"));
+    };
+    Ok((Seat::make(first), Seat::make(second), collector))
 }

@@ -2,8 +2,9 @@
 
 use super::calling::{call, may_call};
 use crate::tests::comparing::{holds, same};
-use heap_model::{CollectorCalls, Entry, Memory, SeatCalls};
+use heap_model::{CollectorCalls, Command, Entry, Memory, Reply, SeatCalls};
 use std::alloc::Global;
+use std::fmt::Display;
 use std::process::Abort;
 
 /// More turns than a phase of these stories takes.
@@ -22,6 +23,20 @@ fn end_phase<C: CollectorCalls>(collector: &mut C) -> Result<(), Memory> {
     Ok(())
 }
 
+/// Calls the seat by the command, which is answered so.
+pub fn answers<S: SeatCalls>(
+    rt: &impl Abort,
+    seat: &mut S,
+    command: Command,
+    reply: Reply,
+    at: &impl Display,
+) -> Result<(), Memory> {
+    seat.room(100)?;
+    holds(rt, may_call(seat, &command), at);
+    same(rt, &call(seat, command), &Some(reply), at);
+    Ok(())
+}
+
 /// Calls the seat by each command that is told, and makes the turns up to each phase.
 pub fn play<S: SeatCalls, C: CollectorCalls>(
     rt: &impl Abort,
@@ -34,9 +49,7 @@ pub fn play<S: SeatCalls, C: CollectorCalls>(
         match *entry {
             Entry::Advance(_) => end_phase(collector)?,
             Entry::Said { command, reply, .. } => {
-                seat.room(100)?;
-                holds(rt, may_call(seat, &command), &story);
-                same(rt, &call(seat, command), &Some(reply), &story);
+                answers(rt, seat, command, reply, &story)?;
             }
             _ => {}
         }
