@@ -1,4 +1,5 @@
 pub mod FirstCalls
 pub mod CallSteps
+pub mod OfTable
 pub mod Players
 pub mod Popped

@@ -122,7 +122,7 @@ pub(super) fn close_two(
 ) -> Result<Option<Closed>, Memory>
     requires first { IsOfTable collector first }
     requires second { IsOfTable collector second }
-    ensures { IfOk result (λ closed. IfSome closed (λ table. table.heap ≡ collector.heap)) }
+    ensures { IfOk result (λ closed. IfSome closed (λ table. IsHeap table.heap)) }
 {
     let mut collector = collector;
     fold(&mut collector, first);
@@ -130,6 +130,8 @@ pub(super) fn close_two(
     if !collector.all_folded() {
         return Ok(None);
     }
+    // The heap's limits are known from here on.
+    let _ = collector.heap();
     match collector.close(alloc) {
         Ok(closed) => Ok(Some(closed)),
         Err(_) => Err(Memory),
@@ -153,7 +155,9 @@ pub(super) fn run_two<R: Threads>(
         return Ok(None);
     };
     let (one, other) = in_two_threads(rt, first, second, task);
-    close_two(alloc, collector, one?, other?)
+    let one = one?;
+    let other = other?;
+    close_two(alloc, collector, one, other)
 }
 
 #[test]

@@ -5,6 +5,6 @@ use Rattle.library_tests.proofs.tests.merges.accept.Given as goal
 
 abbrev pub invariant-loop-entry : goal.invariant-loop-entry
 invariant-loop-entry l = record {
-  grown : l.graph ≡ graph_of l.heap (take l.entry-index l.entries);
-  legal : IsObjectLegal l.heap (take l.entry-index l.entries);
+  grown : l.graph ≡ graph_of l.fn.heap (take l.entry-index l.entries);
+  legal : IsObjectLegal l.fn.heap (take l.entry-index l.entries);
 }

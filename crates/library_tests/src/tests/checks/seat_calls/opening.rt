@@ -1,6 +1,6 @@
 //! The seats of a table that opens, and the table's collector.
 
-ghost use Rattle.std.specs.Prelude.{◌≡◌, OnOk};
+ghost use Rattle.std.specs.Prelude.{IfOk};
 ghost use Rattle.heap_model.specs.Heap.{IsHeap};
 ghost use Rattle.library_tests.specs.SameSeat.{IsOfTable};
 
@@ -25,9 +25,8 @@ pub fn opening(alloc: Global) -> Result<(Seat, Collector), Fail> {
 /// The two seats of a heap that opens, and the heap's collector.
 pub fn two_seats(alloc: Global, heap: Heap) -> Result<(Seat, Seat, CollectorHolder), Fail>
     requires limits { IsHeap heap }
-    ensures first { OnOk result (λ parties. IsOfTable parties.2 parties.0) }
-    ensures second { OnOk result (λ parties. IsOfTable parties.2 parties.1) }
-    ensures heap { OnOk result (λ parties. parties.2.heap ≡ heap) }
+    ensures first { IfOk result (λ parties. IsOfTable parties.2 parties.0) }
+    ensures second { IfOk result (λ parties. IsOfTable parties.2 parties.1) }
 {
     let (mut holders, collector) = HeapTable::make::<Log, Log>(alloc, heap)?;
     let Some(second) = holders.pop() else {

@@ -1,6 +1,7 @@
 //! Two seats of one table swap a field of the board in threads of their own, beside the collector's turns: what all have told goes together.
 
 ghost use Rattle.std.specs.Prelude.{◌≡◌, IfOk};
+ghost use Rattle.heap_model.specs.Heap.{IsHeap};
 ghost use Rattle.library_tests.specs.SameSeat.{IsSameSeat, IsSameTable};
 
 use super::calling::may_call;
@@ -135,9 +136,9 @@ fn stamps_used(seat: &Seat) -> u32 {
     STAMP_LIMIT - 1 - seat.stamps_left()
 }
 
-/// Whether the stamp is that of the last swap of a seat that has done so many.
+/// Whether the stamp is that of the last swap of a seat, which has done so many. A stamp has the seat's number and one more.
 fn is_last_of(stamp: u32, seat: u32, swaps: u32) -> bool {
-    stamp >> 26 == seat + 1 && stamp % STAMP_LIMIT == swaps
+    stamp / STAMP_LIMIT == seat.saturating_add(1) && stamp % STAMP_LIMIT == swaps
 }
 
 /// How many of the entries are a cas and, among these, how many have swapped.
@@ -161,7 +162,9 @@ fn counts(log: &[Entry]) -> (usize, usize) {
 }
 
 /// A graph accepts the merged logs, whole.
-fn go_together(rt: &impl Abort, alloc: Global, closed: &Closed) -> Result<(), Fail> {
+fn go_together(rt: &impl Abort, alloc: Global, closed: &Closed) -> Result<(), Fail>
+    requires { IsHeap closed.now.heap }
+{
     let heap = closed.heap();
     let merged = merge(alloc, closed.logs(), heap)?;
     accept(alloc, heap, merged.as_slice())?;
@@ -200,7 +203,9 @@ fn two_seats_swap_one_field(rt: HostRuntime) -> Result<(), Fail> {
     called(&mut first, &Command::Leave)?;
     called(&mut second, &Command::Leave)?;
     let (first, second) = (first.into_holder(), second.into_holder());
-    let closed = close_two(alloc, collector, first, second)?.ok_or("a seat hasn't left")?;
+    let Some(closed) = close_two(alloc, collector, first, second)? else {
+        return Err("a seat hasn't left".into());
+    };
     have_swapped(&rt, &closed, &used);
     go_together(&rt, alloc, &closed)
 }
