@@ -70,7 +70,7 @@ module _ (old mid new : SeatHeld) (sentinel index address word : ℕ) (begins : 
   pub seat_is_at_cell : IsAtField new.seat.point
   seat_is_at_cell =
       let there = at_payload (after_address old.seat address) word in
-      subst (λ (s : Seat). IsAtField s.point) (sym indexed) (field_point_cases (λ a. IsAtField (points.Access a)) there there.command tt (λ on. tt) (λ off. tt))
+      subst (λ (s : Seat). IsAtField s.point) (sym indexed) (field_point_cases (λ a. IsAtField (points.Access a)) there there.command tt (λ on. tt) (λ off. tt) (λ on some. tt) (λ on none some. tt) (λ none. tt))
 
   -- and the place that it has reached is that of the cell
   pub reached_place_is_cells : IsPlaceOfField new sentinel index new.seat.reached new.seat.part

@@ -1,5 +1,5 @@
 -- What a call of a heap that is played on is to a press, and what a press of such calls comes to.
-use Rattle.std.proofs.Common.{◌≡◌, ℕ, List, [], ◌∷◌, ◌++◌, inl, inr, ap, ◌∙◌, append_assoc}
+use Rattle.std.proofs.Common.{◌≡◌, ◌≢◌, ℕ, List, [], ◌∷◌, ◌++◌, inl, inr, refl, ap, ◌∙◌, append_assoc}
 use Rattle.std.specs.List.{AllByRecursion}
 use Rattle.heap_model.specs.declared.command.Command.{Command}
 use Rattle.heap_model.specs.declared.command.Command.TheVariants as commands
@@ -10,8 +10,10 @@ use Rattle.press_alloc.specs.Calls.{IsNoReply, MovesNothing, AddsCall}
 use Rattle.press_alloc.specs.Presses.{IsPressed}
 use Rattle.heap_runs.specs.Play.{ComesFirst, TellsInCollect}
 use Rattle.heap_runs.specs.PlayHeap.{PlayState, AnswersCall}
-use Rattle.heap_runs.specs.Playing.{NotesCommand}
-use Rattle.heap_runs.specs.Pressed.{PressesCommand}
+use Rattle.heap_runs.specs.Playing.{NotesCall, NotesCommand}
+use Rattle.heap_runs.specs.Pressed.{MakesCommand, PressesCommand}
+use Rattle.heap_runs.specs.declared.playing.making.Allocating.{Allocating}
+use Rattle.heap_runs.specs.declared.playing.making.Allocating.TheVariants.{Once, Pressed}
 use Rattle.core_rule.proofs.runs.LoneEntries.{all_of_implied}
 use Rattle.heap_runs.proofs.CallEntries.{all_come_first}
 use Rattle.heap_runs.proofs.Told.{tells_call}
@@ -53,6 +55,21 @@ entries_of_press old new number command reply (inr again) = (
 
 pub notes_press : (old new : PlayState) (number : ℕ) (command : Command) (reply : Reply) → IsPressed AddsCall old.entries new.entries number command reply → PressesCommand old new number command reply → NotesCommand PressesCommand old new number command
 notes_press old new number command reply adds presses = let more = entries_of_press old.entries new.entries number command reply adds in record { reply = reply; answers = presses; added = more.0; told = more.1 }
+
+-- the command makes neither a record nor an array
+pub record MakesNone (command : Command) : Type 0 where
+  pub no_record : (d fields : ℕ) → command ≢ commands.New d fields
+  pub no_array : (d cells : ℕ) → command ≢ commands.Array d cells
+
+-- a command is made by its one call where that is the way, or where it makes no object
+pub notes_one_call : (way : Allocating) (old new : PlayState) (number : ℕ) (command : Command) → (way ≡ Pressed → MakesNone command) → NotesCall old new number command → NotesCommand (MakesCommand way) old new number command
+notes_one_call way old new number command none notes = record { reply = notes.reply; answers = by way command none notes.answers; added = notes.added; told = notes.told }
+  where
+    by : (way : Allocating) (command : Command) → (way ≡ Pressed → MakesNone command) → AnswersCall old new number command notes.reply → MakesCommand way old new number command notes.reply
+    by Once command none answers = answers
+    by Pressed (commands.New d fields) none answers = absurd ((none refl).no_record d fields refl)
+    by Pressed (commands.Array d cells) none answers = absurd ((none refl).no_array d cells refl)
+    by Pressed _ none answers = answers
 
 -- what each call of a press did is done where the press is seen otherwise
 pub press_seen_as : {Whole Other : Type 0} (seen : Whole → Other) (Calls : Whole → Whole → ℕ → Command → Reply → Type 0) (Does : Other → Other → ℕ → Command → Reply → Type 0)

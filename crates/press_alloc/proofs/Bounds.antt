@@ -20,12 +20,12 @@ use Rattle.heap_model.specs.graph.Growth.{after_entry}
 use Rattle.heap_model.specs.graph.Reach.{IsReach}
 use Rattle.heap_model.specs.graph.Sizes.{fragments_of_all, spine_words_of_all}
 use Rattle.heap_model.proofs.Histories.{total-more}
+use Rattle.heap_model.proofs.account_lemmas.Fronts.{front_keeps_rules, back_keeps_rules, entry_keeps_rules}
+use Rattle.heap_model.proofs.account_lemmas.Sections.{up_to_last_stays, after_last_grows, total-append}
 use Rattle.heap_model.proofs.account_lemmas.Windows.{total_is_own_and_others, up_to_last-yes, after_last-yes, up_to_last-no, after_last-no}
 use Rattle.press_alloc.specs.Calls.{IsNoReply, MovesNothing}
 use Rattle.press_alloc.specs.Refusals.{HoldsCycle}
 use Rattle.press_alloc.proofs.Collected.{begin_of}
-use Rattle.heap_model.proofs.account_lemmas.Fronts.{front_keeps_rules, back_keeps_rules, entry_keeps_rules}
-use Rattle.heap_model.proofs.account_lemmas.Sections.{up_to_last_stays, after_last_grows, total-append}
 use Rattle.press_alloc.proofs.Silence.{all_of_parts, graph_stays, none_replies, nothing_taken, nothing_given, nothing_granted}
 
 -- entries that are no replies change nothing of the graph of a history

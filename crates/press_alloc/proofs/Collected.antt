@@ -17,10 +17,10 @@ use Rattle.heap_model.specs.account.PhaseCounts.{phase, HasEnded, BeganSince}
 use Rattle.heap_model.specs.account.Phases.{ShowsPhases}
 use Rattle.heap_model.specs.account.Windows.{is_reply_to, since_reply}
 use Rattle.heap_model.specs.graph.Replies.{Collects}
-use Rattle.press_alloc.specs.Calls.{IsNoReply}
-use Rattle.press_alloc.specs.Refusals.{HoldsCycle}
 use Rattle.heap_model.proofs.account_lemmas.Fronts.{front_is_legal, entry_is_accepted, entry_keeps_rules}
 use Rattle.heap_model.proofs.account_lemmas.Sections.{after_last_grows, total-append, IsAt, contained_is_at}
+use Rattle.press_alloc.specs.Calls.{IsNoReply}
+use Rattle.press_alloc.specs.Refusals.{HoldsCycle}
 use Rattle.press_alloc.proofs.Silence.{none_replies}
 
 -- the entry that begins the cycle

@@ -22,6 +22,8 @@ use Rattle.heap_model.specs.graph.Graph.{Graph}
 use Rattle.heap_model.specs.graph.Reach.{IsReach}
 use Rattle.heap_model.specs.graph.Sizes.{fragments_of_all, spine_words_of_all}
 use Rattle.heap_model.proofs.Histories.{total-more}
+use Rattle.heap_model.proofs.account_lemmas.Fronts.{front_is_legal, entry_keeps_rules}
+use Rattle.heap_model.proofs.account_lemmas.Sections.{total-append}
 use Rattle.heap_model.proofs.account_lemmas.Windows.{up_to_last-yes, after_last-yes}
 use Rattle.press_alloc.specs.Calls.{AddsCall, IsNoReply}
 use Rattle.press_alloc.specs.Presses.{IsAllocation, RefusesSpace, CallsAgain, IsPressed}
@@ -29,9 +31,7 @@ use Rattle.press_alloc.specs.Refusals.{ExceedsFragments, ExceedsWords, HasNoFrag
 use Rattle.press_alloc.proofs.Bounds.{fragments_left, words_left}
 use Rattle.press_alloc.proofs.Calling.{graph_after_refusal, graph_after_collect}
 use Rattle.press_alloc.proofs.Collected.{cycle_in_collect}
-use Rattle.heap_model.proofs.account_lemmas.Fronts.{front_is_legal, entry_keeps_rules}
 use Rattle.press_alloc.proofs.Seats.{one_seat_tells_all}
-use Rattle.heap_model.proofs.account_lemmas.Sections.{total-append}
 use Rattle.press_alloc.proofs.Silence.{adds_nothing, none_is_born, none_is_granted}
 
 -- no collect makes an object

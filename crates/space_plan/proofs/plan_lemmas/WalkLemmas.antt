@@ -20,19 +20,18 @@ use Rattle.space_plan.specs.plan.Seats.{SeatFits, space_at}
 use Rattle.space_plan.specs.plan.Walking.{BegunTells, EndedTells, LedgerTells, Passed, WalkFits}
 
 -- each part has gone over the entry
-pub Passed-more : (old new : Walk) (history : List Entry) (entry : Entry) → Passed old history → new.ledger.heap ≡ old.ledger.heap → new.graph ≡ after_entry old.graph entry → new.account.heap ≡ old.account.heap
+pub Passed-more : (old new : Walk) (history : List Entry) (entry : Entry) → Passed old history → new.ledger.heap ≡ old.ledger.heap → new.graph ≡ after_entry old.graph entry → old.account.heap ≡ old.ledger.heap → new.account.heap ≡ old.account.heap
     → (old.graph ≡ graph_of old.account.heap history → Tells new.account (history ++ entry ∷ [])) → LedgerTells old.ledger.heap new.ledger (history ++ entry ∷ [])
     → (BegunTells new.ledger.heap old.begun history → LedgerTells new.ledger.heap new.ledger (history ++ entry ∷ []) → new.account.heap ≡ new.ledger.heap → Tells new.account (history ++ entry ∷ []) → BegunTells new.ledger.heap new.begun (history ++ entry ∷ []))
     → EndedTells old.ledger.heap new.ended (ends_of (history ++ entry ∷ [])) → Passed new (history ++ entry ∷ [])
-Passed-more old new history entry passed same grown still counts ledger begins ended =
+Passed-more old new history entry passed same grown one still counts ledger begins ended =
     let graph : new.graph ≡ graph_of new.ledger.heap (history ++ entry ∷ [])
     = grown ∙ ap (λ g. after_entry g entry) passed.graph ∙ sym (graph_after-more (opening old.ledger.heap) history entry) ∙ ap (λ (h : Heap). graph_of h (history ++ entry ∷ [])) (sym same) in
     let told : LedgerTells new.ledger.heap new.ledger (history ++ entry ∷ []) = subst (λ h. LedgerTells h new.ledger (history ++ entry ∷ [])) (sym same) ledger in
-    let of_heap : new.account.heap ≡ new.ledger.heap = still ∙ passed.of_heap ∙ sym same in
-    let account : Tells new.account (history ++ entry ∷ []) = counts (passed.graph ∙ ap (λ (h : Heap). graph_of h history) (sym passed.of_heap)) in
+    let of_heap : new.account.heap ≡ new.ledger.heap = still ∙ one ∙ sym same in
+    let account : Tells new.account (history ++ entry ∷ []) = counts (passed.graph ∙ ap (λ (h : Heap). graph_of h history) (sym one)) in
     record {
       graph = graph;
-      of_heap = of_heap;
       account = account;
       ledger = told;
       begun = begins (subst (λ h. BegunTells h old.begun history) (sym same) passed.begun) told of_heap account;
@@ -52,6 +51,7 @@ SeatFits-wider n m walk wider fits number =
 
 pub WalkFits-wider : (n m : ℕ) (walk : Walk) → n ≤ m → WalkFits n walk → WalkFits m walk
 WalkFits-wider n m walk wider fits = record {
+  of_heap = fits.of_heap;
   counted = omega (arith, wider, fits.counted);
   ledger = record {
     gained = omega (arith, wider, fits.ledger.gained);

@@ -54,14 +54,14 @@ pub record EndedTells (heap : Heap) (ended : EndedCycles) (ends : List Moment) :
 -- the walk has gone over this history
 pub record Passed (walk : Walk) (history : List Entry) : Type 0 where
   pub graph : walk.graph ≡ graph_of walk.ledger.heap history
-  pub of_heap : walk.account.heap ≡ walk.ledger.heap
   pub account : Tells walk.account history
   pub ledger : LedgerTells walk.ledger.heap walk.ledger history
   pub begun : BegunTells walk.ledger.heap walk.begun history
   pub ended : EndedTells walk.ledger.heap walk.ended (ends_of history)
 
--- its numbers are small enough for so many entries
+-- its account and its ledger are of one heap, and its numbers small enough for so many entries
 pub record WalkFits (entries : ℕ) (walk : Walk) : Type 0 where
+  pub of_heap : walk.account.heap ≡ walk.ledger.heap
   pub counted : walk.account.entries ≤ entries
   pub ledger : LedgerFits entries walk.ledger
   pub begun : BegunFits entries walk.begun

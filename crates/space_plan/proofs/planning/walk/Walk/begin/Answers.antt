@@ -12,7 +12,6 @@ opening-requires-clause-made c = omega (arith, ap (λ g. sum (made_counts g)) c.
 pub returns-clause-passed : goal.returns-clause-passed
 returns-clause-passed c = record {
   graph = c.in_ok-graph.ensures ∙ ap opening (sym c.opening-ledger.ensures.heap);
-  of_heap = c.in_ok-account.ensures.heap ∙ sym c.opening-ledger.ensures.heap;
   account = c.in_ok-account.ensures.tells;
   ledger = subst (λ h. LedgerTells h c.opening-ledger.result []) (sym c.opening-ledger.ensures.heap) c.opening-ledger.ensures.tells;
   begun = c.in_ok-begun.ensures.tells;
@@ -21,6 +20,7 @@ returns-clause-passed c = record {
 
 pub returns-clause-fits : goal.returns-clause-fits
 returns-clause-fits c = record {
+  of_heap = c.in_ok-account.ensures.heap ∙ sym c.opening-ledger.ensures.heap;
   counted = omega (arith, c.in_ok-account.ensures.tells.entries);
   ledger = c.opening-ledger.ensures.fits;
   begun = c.in_ok-begun.ensures.fits;
