@@ -29,6 +29,7 @@ number_left : (seat : SeatHeld) (command : Command) → objects_of seat + 1 < na
 number_left seat (commands.New d fields) names stamps = names
 number_left seat (commands.Array d cells) names stamps = names
 number_left seat (commands.Set r i v) names stamps = stamps
+number_left seat (commands.Cas r i a v) names stamps = stamps
 number_left seat _ names stamps = tt
 
 -- who may make all commands of a script, and has made fewer, may make one more
