@@ -73,7 +73,14 @@ fn run_all<N: HeldName, G: Gate, R: Wait>(
     ensures { IfOk result (HasWorked site.now.queue.now site.now.jobs.now N.table N.heap worker.seat.number) }
 {
     let mut begun = 0;
-    let runs = run_popped(rt, held, site, &mut worker.pass, &mut worker.seat, &mut begun)?;
+    let runs = run_popped(
+        rt,
+        held,
+        site,
+        &mut worker.pass,
+        &mut worker.seat,
+        &mut begun,
+    )?;
     Ok(Worked {
         worker,
         runs,
