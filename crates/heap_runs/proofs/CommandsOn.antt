@@ -28,7 +28,7 @@ use Rattle.heap_runs.proofs.LooksOn.{looks_around_by_room, own_graph_seat_stays,
 use Rattle.heap_runs.proofs.SeatTells.{tells_one_collect}
 
 -- replies are paid by the finds of their time
-none_paid : (patience before now : ℕ) → before ≤ now → IsPaidSince patience 0 before now
+pub none_paid : (patience before now : ℕ) → before ≤ now → IsPaidSince patience 0 before now
 none_paid patience before now on = let none : patience * 0 ≡ 0 = grind arith in inl (omega (arith, none, on))
 
 paid_then : (patience first later all before now new : ℕ) → all ≡ first + later → IsPaidSince patience first before now → IsPaidSince patience later now new → IsPaidSince patience all before new

@@ -32,7 +32,7 @@ between_opened table heap held opened = record {
 }
 
 -- by its own entries, of which there are none, it is as at the opening
-own_opened : (table : TableId) (heap : Heap) (held : SeatHeld) → IsOpened table heap held → held.number < heap.seats → own_graph_seat (seat_state held) ≡ opening_graph_seat
+pub own_opened : (table : TableId) (heap : Heap) (held : SeatHeld) → IsOpened table heap held → held.number < heap.seats → own_graph_seat (seat_state held) ≡ opening_graph_seat
 own_opened table heap held opened within =
     subst (λ (s : Seat). own_graph_seat (seat_state (record held { seat = s })) ≡ opening_graph_seat) (sym opened.seat_is)
     (subst (λ (h : Heap). own_graph_seat (record { heap = h; number = held.number; mine = []; spare = held.spare }) ≡ opening_graph_seat) (sym opened.heap_is)

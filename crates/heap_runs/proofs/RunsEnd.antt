@@ -24,7 +24,7 @@ use Rattle.core_rule.proofs.runs.LoneEntries.{all_of_append}
 use Rattle.collector_turns.specs.Collector.{CollectorValue}
 use Rattle.heap_runs.specs.Finishing.{HasGone, HasLogs}
 use Rattle.heap_runs.specs.Role.{IsOfRun}
-use Rattle.heap_runs.specs.SeatWork.{IsReadyToWork, HasWorked, HaveWorked, script_at}
+use Rattle.heap_runs.specs.SeatWork.{IsOfTable, IsReadyToWork, HasMade, HasWorked, HaveWorked, script_at}
 
 -- the command is a leave
 abbrev is_leaving : Command → Bool
@@ -57,8 +57,20 @@ any_leave number (entry ∷ es) some =
 leave_told : (number : ℕ) (part : List Entry) (script : List Command) → commands_told number part ≡ script ++ Leave ∷ [] → has_left number part ≡ true
 leave_told number part script told = any_leave number part (ap (list_any is_leaving) told ∙ list_any-append is_leaving script (Leave ∷ []) ∙ or-true (list_any is_leaving script))
 
+-- a seat of the table whose last call was a leave has gone
+pub has_gone : (patience : ℕ) (table : TableId) (heap : Heap) (old new : SeatHeld) (script : List Command) → IsOfTable table heap old → HasMade patience old new (script ++ Leave ∷ []) → new.seat.left ≡ true → HasGone table heap new
+has_gone patience table heap old new script was made left =
+    let told : has_left old.number (old.seat.mine ++ made.part) ≡ true
+    = list_any-append (is_leave_of old.number) old.seat.mine made.part ∙ rw (leave_told old.number made.part script made.answered) (or-true (has_left old.number old.seat.mine)) in
+    record {
+      table_is = made.table_stays ∙ was.table_is;
+      heap_is = made.heap_stays ∙ was.heap_is;
+      left = left;
+      told = ap (λ n. has_left n new.seat.mine) made.number_stays ∙ ap (has_left old.number) made.mine ∙ told;
+    }
+
 -- where each pair has the same number, all have the same numbers
-same_numbers : (olds news : List SeatHeld) → length news ≡ length olds → ((k : ℕ) (old new : SeatHeld) → slice_get olds k ≡ Some old → slice_get news k ≡ Some new → new.number ≡ old.number)
+pub same_numbers : (olds news : List SeatHeld) → length news ≡ length olds → ((k : ℕ) (old new : SeatHeld) → slice_get olds k ≡ Some old → slice_get news k ≡ Some new → new.number ≡ old.number)
     → map (λ held. held.number) news ≡ map (λ held. held.number) olds
 same_numbers [] [] many each = refl
 same_numbers [] (new ∷ news) many each = absurd (omega (arith, many))
@@ -78,14 +90,7 @@ module _ (patience : ℕ) (scripts : List (List Command)) (table : TableId) (hea
       let new = slice_index_or news k d in
       let one : HasWorked patience old (script_at scripts old.number) new = worked.each k old new (slice_get-get_or olds k d within) (slice_get-get_or news k d below) in
       let was : IsReadyToWork table heap scripts old = ready k d within in
-      let told : has_left old.number (old.seat.mine ++ one.made.part) ≡ true
-      = list_any-append (is_leave_of old.number) old.seat.mine one.made.part ∙ rw (leave_told old.number one.made.part (script_at scripts old.number) one.made.answered) (or-true (has_left old.number old.seat.mine)) in
-      record {
-        table_is = one.made.table_stays ∙ was.of_table.table_is;
-        heap_is = one.made.heap_stays ∙ was.of_table.heap_is;
-        left = one.left;
-        told = ap (λ n. has_left n new.seat.mine) one.made.number_stays ∙ ap (has_left old.number) one.made.mine ∙ told;
-      }
+      has_gone patience table heap old new (script_at scripts old.number) was.of_table one.made one.left
 
   -- and has its number
   pub numbers_stay : map (λ held. held.number) news ≡ map (λ held. held.number) olds

@@ -13,12 +13,14 @@ mod seat_work;
 mod turning;
 mod workers;
 
+pub use finishing::finish;
 pub use machine_heap::MachineHeap;
 pub use play_heap::PlayHeap;
 pub use playing::{play, play_pressed};
 pub use role::{Held, HeldName};
 pub use running_seats::{Ran, run_seats, seats_of};
 pub use seat_collect::collect_call;
+pub use seat_work::make_command;
 pub use turning::turn_line;
 
 #[cfg(test)]

@@ -26,7 +26,7 @@ fn make_call(seat: &mut Seat, command: &Command, patience: u32) -> Result<u64, M
 }
 
 /// Makes the next command of the seat's script. It takes the lock for the turns of a collect, and to tell what another command has claimed, if it has claimed something.
-fn make_command<N: HeldName, R: Wait>(
+pub fn make_command<N: HeldName, R: Wait>(
     rt: &R,
     held: &Mutex<Held<N>>,
     seat: &mut Seat,

@@ -4,85 +4,118 @@ use Rattle.std.specs.Prelude.{All, IfOk, IsPermutation, Ok, Option, Result, Some
 use Rattle.std.specs.List.{range_with_len, AllPairs}
 use Rattle.std.specs.List.Sorted.{IsNonDecreasingBy, IsStrictlyIncreasing}
 use Rattle.std.proofs.lemmas.List.{length-append, length-map, map-append, get_or-map}
-use Rattle.std.proofs.lemmas.List.Elements.{All-weaker, All-append, All-nil, All-get_or, Contains-append_left, Contains-push}
+use Rattle.std.proofs.lemmas.List.Elements.{All-weaker, All-append, All-nil, All-push, All-get_or, Contains-append_left, Contains-push}
 use Rattle.std.proofs.lemmas.List.FromFn.{length-range_with_len, get_or-range_with_len}
 use Rattle.std.proofs.lemmas.List.Sorted.{All-permutation}
+use Rattle.std.proofs.lemmas.List.Sums.{sum_by-append}
+use Rattle.atomic_table.specs.Seated.{TableId}
+use Rattle.heap_model.specs.declared.command.Command.{Command}
 use Rattle.heap_model.specs.declared.fault.Memory.{Memory}
+use Rattle.heap_model.specs.declared.heap.Heap.{Heap}
+use Rattle.heap_table.specs.SeatHeld.{SeatHeld}
+use Rattle.heap_runs.specs.SeatWork.{HasMade}
 use Rattle.crossbeam_queue.specs.declared.array_queue.Doing.{Doing}
 use Rattle.crossbeam_queue.specs.declared.array_queue.Slotted.{Slotted}
-use Rattle.script_crew.specs.declared.crew.NotedCrew.{NotedCrew}
+use Rattle.script_crew.specs.declared.gathering.Crew.{Crew}
 use Rattle.script_crew.specs.declared.job.Job.{Job}
 use Rattle.script_crew.specs.declared.job.JobRun.{JobRun}
-use Rattle.script_crew.specs.declared.noted_seat.NotedSeat.{NotedSeat}
 use Rattle.script_crew.specs.declared.position_rule.Tally.{Tally}
 use Rattle.script_crew.specs.declared.worker.Worked.{Worked}
 use Rattle.script_crew.specs.declared.worker.Worker.{Worker}
+use Rattle.script_crew.specs.Jobs.{HasUsed, calls_at}
 use Rattle.script_crew.specs.Positions.{tally}
 use Rattle.script_crew.specs.Runs.{job_numbers, run_numbers, seat_numbers, EndsBefore, IsRunOn, IsRunAmong, AreWhole}
-use Rattle.script_crew.specs.Working.{positions_of, numbers_at, GoesOn, HasRun, HaveRun, HasWorked, HaveWorked}
-use Rattle.script_crew.proofs.Running.{ends_within, run_stays}
+use Rattle.script_crew.specs.Working.{positions_of, numbers_at, IsAtWork, HasRun, HaveRun, HasWorked, HaveWorked}
+use Rattle.script_crew.proofs.Running.{ends_within, run_stays, stays_of_table}
 use Rattle.script_crew.proofs.SameLists.{in_order, range-push}
 use Rattle.script_crew.proofs.Turns.{AllPairs-append, apart-from_in_turn}
 
 -- where seats are numbered by their positions, the seat at a position has its number
-number_is_position : (seats : List NotedSeat) (n : ℕ) → seat_numbers seats ≡ range_with_len 0 n → (k : ℕ) (seat : NotedSeat) → k < length seats → get_or seats k seat ≡ seat → (seat.number ≡ k) × (k < n)
+pub number_is_position : (seats : List SeatHeld) (n : ℕ) → seat_numbers seats ≡ range_with_len 0 n → (k : ℕ) (seat : SeatHeld) → k < length seats → get_or seats k seat ≡ seat → (seat.number ≡ k) × (k < n)
 number_is_position seats n numbered k seat few here =
-    let number : NotedSeat → ℕ = λ one. one.number in
+    let number : SeatHeld → ℕ = λ one. one.number in
     let below : k < n = omega (arith, few, ap (λ xs. length xs) numbered, length-map seats number, length-range_with_len 0 n) in (
       ap number (sym here) ∙ (sym (get_or-map number seats k seat 0 few) ∙ (ap (λ xs. get_or xs k 0) numbered ∙ (get_or-range_with_len 0 n k 0 below ∙ zero-add k))),
       below,
     )
 
--- and the seat of the worker at a position has that number
-pub worker_number : (workers : List Worker) (seats : List NotedSeat) (n : ℕ) → map (λ worker. worker.seat) workers ≡ seats → seat_numbers seats ≡ range_with_len 0 n
-    → (k : ℕ) (worker : Worker) → k < length workers → get_or workers k worker ≡ worker → worker.seat.number ≡ k
-worker_number workers seats n seats_are numbered k worker few here =
-    let seat : Worker → NotedSeat = λ one. one.seat in
-    (number_is_position seats n numbered k worker.seat (omega (arith, few, ap (λ xs. length xs) seats_are, length-map workers seat))
-    (ap (λ xs. get_or xs k worker.seat) (sym seats_are) ∙ (get_or-map seat workers k worker worker.seat few ∙ ap seat here))).0
+-- and so has the seat of the worker at a position
+pub worker_number : (workers : List Worker) (n : ℕ) → map (λ worker. worker.seat.number) workers ≡ range_with_len 0 n → (k : ℕ) (worker : Worker) → k < length workers → get_or workers k worker ≡ worker → worker.seat.number ≡ k
+worker_number workers n numbered k worker few here =
+    let number : Worker → ℕ = λ one. one.seat.number in
+    let below : k < n = omega (arith, few, ap (λ xs. length xs) numbered, length-map workers number, length-range_with_len 0 n) in
+    ap number (sym here) ∙ (sym (get_or-map number workers k worker 0 few) ∙ (ap (λ xs. get_or xs k 0) numbered ∙ (get_or-range_with_len 0 n k 0 below ∙ zero-add k)))
 
-seat_is_below : (jobs : List Job) (seats : List NotedSeat) (n : ℕ) → seat_numbers seats ≡ range_with_len 0 n → (run : JobRun) → IsRunAmong jobs seats run → run.seat < n
+seat_is_below : (jobs : List Job) (seats : List SeatHeld) (n : ℕ) → seat_numbers seats ≡ range_with_len 0 n → (run : JobRun) → IsRunAmong jobs seats run → run.seat < n
 seat_is_below jobs seats n numbered run ran =
     let at = number_is_position seats n numbered ran.of_seats.0 ran.seat ran.of_seats.1 ran.of_seats.2 in
     omega (arith, ran.on_seat.of_job.seat_is, at.0, at.1)
 
-among_more : (jobs : List Job) (seats : List NotedSeat) (seat : NotedSeat) (run : JobRun) → IsRunAmong jobs seats run → IsRunAmong jobs (seats ++ seat ∷ []) run
+among_more : (jobs : List Job) (seats : List SeatHeld) (seat : SeatHeld) (run : JobRun) → IsRunAmong jobs seats run → IsRunAmong jobs (seats ++ seat ∷ []) run
 among_more jobs seats seat run ran = record {
   seat = ran.seat;
   of_seats = Contains-append_left seats (seat ∷ []) ran.seat ran.of_seats;
   on_seat = ran.on_seat;
 }
 
+-- what suffices for some positions suffices for more
+uses_of_more : (jobs : List Job) (positions more : List ℕ) (seat : SeatHeld) → HasUsed jobs positions seat → HasUsed jobs (positions ++ more) seat
+uses_of_more jobs positions more seat used =
+    let both = sum_by-append (calls_at jobs) positions more in
+    record { objects = omega (arith, both, used.objects); sets = omega (arith, both, used.sets) }
+
+works_on : (jobs : List Job) (table : TableId) (heap : Heap) (positions more : List ℕ) (seat : SeatHeld) → IsAtWork jobs table heap positions seat → IsAtWork jobs table heap (positions ++ more) seat
+works_on jobs table heap positions more seat work = record { of_table = work.of_table; present = work.present; used = uses_of_more jobs positions more seat work.used }
+
+-- a seat that was fresh is at work behind what it has run, and what others have
+worked_so : (jobs : List Job) (table : TableId) (heap : Heap) (one new : Tally) (positions : List ℕ) (before seat : SeatHeld) (runs : List JobRun) → IsAtWork jobs table heap [] before
+    → (ran : HasRun jobs one new before seat runs) → IsAtWork jobs table heap (positions ++ ran.positions) seat
+worked_so jobs table heap one new positions before seat runs fresh ran =
+    let both = sum_by-append (calls_at jobs) positions ran.positions in
+    record {
+      of_table = stays_of_table table heap before seat ran.commands fresh.of_table ran.goes_on;
+      present = ran.goes_on.present;
+      used = record {
+        objects = omega (arith, both, fresh.used.objects, ran.goes_on.objects, ran.calls);
+        sets = omega (arith, both, fresh.used.sets, ran.goes_on.sets, ran.calls);
+      };
+    }
+
 -- no worker was joined yet
-pub none_joined : (jobs : List Job) (one : Tally) (crew : NotedCrew) → one.popped ≡ [] → crew.seats.items ≡ [] → crew.runs.items ≡ [] → HaveRun jobs one 0 one crew
-none_joined jobs one crew none seats_are runs_are = record {
+pub none_joined : (jobs : List Job) (table : TableId) (heap : Heap) (one : Tally) (crew : Crew) → one.popped ≡ [] → crew.seats.items ≡ [] → crew.runs.items ≡ [] → HaveRun jobs table heap one 0 one crew
+none_joined jobs table heap one crew none seats_are runs_are = record {
   positions = [];
   popped = λ i. tally (sym (add-zero one.shares) i) one.pushed (none i) one.known;
   numbers = ap run_numbers runs_are;
   count = ap (λ xs. length xs) seats_are;
   numbered = ap seat_numbers seats_are;
+  at_work = subst (All (IsAtWork jobs table heap [])) (sym seats_are) (All-nil (IsAtWork jobs table heap []));
   each = subst (All (IsRunAmong jobs crew.seats.items)) (sym runs_are) (All-nil (IsRunAmong jobs crew.seats.items));
   in_turn = subst (AllPairs EndsBefore) (sym runs_are) (λ i j d less few. absurd (omega (arith, few)));
 }
 
 -- one worker more was joined
-pub one_more_joined : (jobs : List Job) (first old new both : Tally) (n : ℕ) (crew later : NotedCrew) (before seat : NotedSeat) (runs : List JobRun) → HaveRun jobs first n old crew
-    → before.number ≡ n → HasRun jobs (tally 1 [] [] (positions_of jobs)) new before seat runs → both ≡ tally (old.shares + new.shares) (old.pushed ++ new.pushed) (old.popped ++ new.popped) old.known
-    → later.seats.items ≡ crew.seats.items ++ seat ∷ [] → later.runs.items ≡ crew.runs.items ++ runs → HaveRun jobs first (n + 1) both later
-one_more_joined jobs first old new both n crew later before seat runs had number_is ran both_is seats_are runs_are = record {
+pub one_more_joined : (jobs : List Job) (table : TableId) (heap : Heap) (first old new both : Tally) (n : ℕ) (crew later : Crew) (before seat : SeatHeld) (runs : List JobRun) → HaveRun jobs table heap first n old crew
+    → before.number ≡ n → IsAtWork jobs table heap [] before → HasRun jobs (tally 1 [] [] (positions_of jobs)) new before seat runs → both ≡ tally (old.shares + new.shares) (old.pushed ++ new.pushed) (old.popped ++ new.popped) old.known
+    → later.seats.items ≡ crew.seats.items ++ seat ∷ [] → later.runs.items ≡ crew.runs.items ++ runs → HaveRun jobs table heap first (n + 1) both later
+one_more_joined jobs table heap first old new both n crew later before seat runs had number_is fresh ran both_is seats_are runs_are = record {
   positions = had.positions ++ ran.positions;
   popped = both_is ∙ (λ i. tally (shares i) (pushed i) ((had.popped i).popped ++ (ran.popped i).popped) (had.popped i).known);
   numbers = ap run_numbers runs_are ∙ (map-append (λ run. run.job) crew.runs.items runs
       ∙ ((λ i. had.numbers i ++ ran.numbers i) ∙ sym (map-append (λ position. slice_index (job_numbers jobs) position) had.positions ran.positions)));
   count = omega (arith, ap (λ xs. length xs) seats_are, length-append crew.seats.items (seat ∷ []), had.count);
   numbered = ap seat_numbers seats_are ∙ (map-append (λ one. one.number) crew.seats.items (seat ∷ []) ∙ ((λ i. had.numbered i ++ number i ∷ []) ∙ range-push n));
+  at_work = subst (All (IsAtWork jobs table heap (had.positions ++ ran.positions))) (sym seats_are)
+      (All-push (IsAtWork jobs table heap (had.positions ++ ran.positions)) crew.seats.items seat
+      (All-weaker (IsAtWork jobs table heap had.positions) (IsAtWork jobs table heap (had.positions ++ ran.positions)) (works_on jobs table heap had.positions ran.positions) crew.seats.items had.at_work)
+      (worked_so jobs table heap (tally 1 [] [] (positions_of jobs)) new had.positions before seat runs fresh ran));
   each = subst (λ seats. All (IsRunAmong jobs seats) later.runs.items) (sym seats_are) (subst (All (IsRunAmong jobs (crew.seats.items ++ seat ∷ []))) (sym runs_are)
       (All-append (IsRunAmong jobs (crew.seats.items ++ seat ∷ [])) crew.runs.items runs earlier own));
   in_turn = subst (AllPairs EndsBefore) (sym runs_are) (AllPairs-append EndsBefore crew.runs.items runs had.in_turn ran.in_turn across);
 }
   where
     number : seat.number ≡ n
-    number = ran.goes_on.number_stays ∙ number_is
+    number = ran.goes_on.made.number_stays ∙ number_is
 
     shares : old.shares + new.shares ≡ first.shares + (n + 1)
     shares = omega (arith, ap (λ (one : Tally). one.shares) had.popped, ap (λ (one : Tally). one.shares) ran.popped)
@@ -103,42 +136,42 @@ one_more_joined jobs first old new both n crew later before seat runs had number
         absurd (omega (arith, below, same, on.of_job.seat_is, number))
 
 -- the first seat has gone on
-first_goes_on : (jobs : List Job) (seats : List NotedSeat) (old new : NotedSeat) (run : JobRun) → 0 < length seats → old ≡ get_or seats 0 old → GoesOn old new → IsRunAmong jobs seats run → IsRunAmong jobs (set seats 0 new) run
-first_goes_on jobs [] old new run some is on ran = absurd (omega (arith, some))
-first_goes_on jobs (x ∷ xs) old new run some is on ran = at ran.of_seats.0 ran.seat ran.of_seats.1 ran.of_seats.2 ran.on_seat
+first_goes_on : (jobs : List Job) (seats : List SeatHeld) (old new : SeatHeld) (commands : List Command) (run : JobRun) → 0 < length seats → old ≡ get_or seats 0 old → HasMade 1 old new commands → IsRunAmong jobs seats run → IsRunAmong jobs (set seats 0 new) run
+first_goes_on jobs [] old new commands run some is on ran = absurd (omega (arith, some))
+first_goes_on jobs (x ∷ xs) old new commands run some is on ran = at ran.of_seats.0 ran.seat ran.of_seats.1 ran.of_seats.2 ran.on_seat
   where
-    at : (k : ℕ) (seat : NotedSeat) → k < length (x ∷ xs) → get_or (x ∷ xs) k seat ≡ seat → IsRunOn jobs seat run → IsRunAmong jobs (new ∷ xs) run
-    at zero seat few here ran = record { seat = new; of_seats = (0, omega arith, refl); on_seat = run_stays jobs old new on run (subst (λ s. IsRunOn jobs s run) (sym (is ∙ here)) ran) }
+    at : (k : ℕ) (seat : SeatHeld) → k < length (x ∷ xs) → get_or (x ∷ xs) k seat ≡ seat → IsRunOn jobs seat run → IsRunAmong jobs (new ∷ xs) run
+    at zero seat few here ran = record { seat = new; of_seats = (0, omega arith, refl); on_seat = run_stays jobs old new commands on run (subst (λ s. IsRunOn jobs s run) (sym (is ∙ here)) ran) }
     at (suc k) seat few here ran = record { seat = seat; of_seats = (suc k, few, here); on_seat = ran }
 
 -- a run of the first seat ends within that seat's log
-first_ends : (jobs : List Job) (seats : List NotedSeat) (n : ℕ) (old : NotedSeat) (run : JobRun) → seat_numbers seats ≡ range_with_len 0 n → 0 < length seats → old ≡ get_or seats 0 old
-    → IsRunAmong jobs seats run → run.seat ≡ old.number → run.to ≤ length old.log.items
+first_ends : (jobs : List Job) (seats : List SeatHeld) (n : ℕ) (old : SeatHeld) (run : JobRun) → seat_numbers seats ≡ range_with_len 0 n → 0 < length seats → old ≡ get_or seats 0 old
+    → IsRunAmong jobs seats run → run.seat ≡ old.number → run.to ≤ length old.seat.mine
 first_ends jobs [] n old run numbered some is ran same = absurd (omega (arith, some))
 first_ends jobs (x ∷ xs) n old run numbered some is ran same = at ran.of_seats.0 ran.seat ran.of_seats.1 ran.of_seats.2 ran.on_seat
   where
-    at : (k : ℕ) (seat : NotedSeat) → k < length (x ∷ xs) → get_or (x ∷ xs) k seat ≡ seat → IsRunOn jobs seat run → run.to ≤ length old.log.items
-    at zero seat few here ran = subst (λ s. run.to ≤ length s.log.items) (sym (is ∙ here)) (ends_within jobs seat run ran)
+    at : (k : ℕ) (seat : SeatHeld) → k < length (x ∷ xs) → get_or (x ∷ xs) k seat ≡ seat → IsRunOn jobs seat run → run.to ≤ length old.seat.mine
+    at zero seat few here ran = subst (λ s. run.to ≤ length s.seat.mine) (sym (is ∙ here)) (ends_within jobs seat run ran)
     at (suc k) seat few here ran =
         let own = number_is_position (x ∷ xs) n numbered (suc k) seat few here in
         let first = number_is_position (x ∷ xs) n numbered 0 old (omega arith) (sym is) in
         absurd (omega (arith, ran.of_job.seat_is, own.0, first.0, same))
 
-on_first : (jobs : List Job) (seats : List NotedSeat) (seat : NotedSeat) (run : JobRun) → 0 < length seats → IsRunOn jobs seat run → IsRunAmong jobs (set seats 0 seat) run
+on_first : (jobs : List Job) (seats : List SeatHeld) (seat : SeatHeld) (run : JobRun) → 0 < length seats → IsRunOn jobs seat run → IsRunAmong jobs (set seats 0 seat) run
 on_first jobs [] seat run some one = absurd (omega (arith, some))
 on_first jobs (x ∷ xs) seat run some one = record { seat = seat; of_seats = (0, omega arith, refl); on_seat = one }
 
 -- where the first seat is replaced by one of its number, the numbers stay
-pub numbers_stay : (seats : List NotedSeat) (old new : NotedSeat) → 0 < length seats → old ≡ get_or seats 0 old → new.number ≡ old.number → seat_numbers (set seats 0 new) ≡ seat_numbers seats
+pub numbers_stay : (seats : List SeatHeld) (old new : SeatHeld) → 0 < length seats → old ≡ get_or seats 0 old → new.number ≡ old.number → seat_numbers (set seats 0 new) ≡ seat_numbers seats
 numbers_stay [] old new some is same = refl
-numbers_stay (x ∷ xs) old new some is same = λ i. (same ∙ ap (λ (seat : NotedSeat). seat.number) is) i ∷ seat_numbers xs
+numbers_stay (x ∷ xs) old new some is same = λ i. (same ∙ ap (λ (seat : SeatHeld). seat.number) is) i ∷ seat_numbers xs
 
 -- once the queue was empty for the pass that has every share, the runs are whole
-pub runs_are_whole : (jobs : List Job) (first old new : Tally) (n : ℕ) (crew : NotedCrew) (before after : NotedSeat) (rest sorted : List JobRun)
-    → first.pushed ≡ positions_of jobs → HaveRun jobs first n old crew → 0 < length crew.seats.items → before ≡ get_or crew.seats.items 0 before → HasRun jobs old new before after rest
+pub runs_are_whole : (jobs : List Job) (table : TableId) (heap : Heap) (first old new : Tally) (n : ℕ) (crew : Crew) (before after : SeatHeld) (rest sorted : List JobRun)
+    → first.pushed ≡ positions_of jobs → HaveRun jobs table heap first n old crew → 0 < length crew.seats.items → before ≡ get_or crew.seats.items 0 before → HasRun jobs old new before after rest
     → ((measure : ℕ → ℕ) → sum_by measure new.popped ≡ sum_by measure new.pushed) → IsPermutation (crew.runs.items ++ rest) sorted → IsNonDecreasingBy (λ run. run.job) sorted
     → IsStrictlyIncreasing (job_numbers jobs) → AreWhole jobs (set crew.seats.items 0 after) sorted
-runs_are_whole jobs first old new n crew before after rest sorted pushed had some is ran popped moved up rising = record {
+runs_are_whole jobs table heap first old new n crew before after rest sorted pushed had some is ran popped moved up rising = record {
   once = in_order jobs (crew.runs.items ++ rest) sorted (had.positions ++ ran.positions) numbers positions moved up rising;
   each = All-permutation (IsRunAmong jobs (set crew.seats.items 0 after)) (crew.runs.items ++ rest) sorted moved
       (All-append (IsRunAmong jobs (set crew.seats.items 0 after)) crew.runs.items rest earlier later);
@@ -158,7 +191,7 @@ runs_are_whole jobs first old new n crew before after rest sorted pushed had som
     positions measure = ap (sum_by measure) (sym popped_is) ∙ (popped measure ∙ ap (sum_by measure) pushed_is)
 
     earlier : All (IsRunAmong jobs (set crew.seats.items 0 after)) crew.runs.items
-    earlier = All-weaker (IsRunAmong jobs crew.seats.items) (IsRunAmong jobs (set crew.seats.items 0 after)) (λ run one. first_goes_on jobs crew.seats.items before after run some is ran.goes_on one) crew.runs.items had.each
+    earlier = All-weaker (IsRunAmong jobs crew.seats.items) (IsRunAmong jobs (set crew.seats.items 0 after)) (λ run one. first_goes_on jobs crew.seats.items before after ran.commands run some is ran.goes_on.made one) crew.runs.items had.each
 
     later : All (IsRunAmong jobs (set crew.seats.items 0 after)) rest
     later = All-weaker (IsRunOn jobs after) (IsRunAmong jobs (set crew.seats.items 0 after)) (λ run one. on_first jobs crew.seats.items after run some one) rest ran.on_seat
@@ -168,7 +201,7 @@ runs_are_whole jobs first old new n crew before after rest sorted pushed had som
         let on = All-get_or (IsRunOn jobs after) rest j e short ran.on_seat in
         let among = All-get_or (IsRunAmong jobs crew.seats.items) crew.runs.items k d few had.each in
         let begins = ran.begin j e short in
-        let ends = first_ends jobs crew.seats.items n before (get_or crew.runs.items k d) had.numbered some is among (same ∙ (on.of_job.seat_is ∙ ran.goes_on.number_stays)) in
+        let ends = first_ends jobs crew.seats.items n before (get_or crew.runs.items k d) had.numbered some is among (same ∙ (on.of_job.seat_is ∙ ran.goes_on.made.number_stays)) in
         omega (arith, ends, begins)
 
 -- what stands behind so many others
@@ -178,8 +211,8 @@ slice_get_middle (z ∷ zs) x ys = slice_get_middle zs x ys
 
 module _ {Q A : Type 0} where
   -- the worker that comes next has worked on the seat of its position
-  pub next_has_worked : (queue : Slotted (Option ℕ) (Doing ℕ Tally) Q A) (jobs : List Job) (ends before behind : List (Result Worked Memory)) (end : Result Worked Memory) (worked : Worked)
-      → HaveWorked queue jobs ends → before ++ end ∷ behind ≡ ends → end ≡ Ok worked → HasWorked queue jobs (length before) worked
-  next_has_worked queue jobs ends before behind end worked have all is =
-      subst (λ (one : Result Worked Memory). IfOk one (HasWorked queue jobs (length before))) is
+  pub next_has_worked : (queue : Slotted (Option ℕ) (Doing ℕ Tally) Q A) (jobs : List Job) (table : TableId) (heap : Heap) (ends before behind : List (Result Worked Memory)) (end : Result Worked Memory) (worked : Worked)
+      → HaveWorked queue jobs table heap ends → before ++ end ∷ behind ≡ ends → end ≡ Ok worked → HasWorked queue jobs table heap (length before) worked
+  next_has_worked queue jobs table heap ends before behind end worked have all is =
+      subst (λ (one : Result Worked Memory). IfOk one (HasWorked queue jobs table heap (length before))) is
       (have (length before) end (ap (λ xs. slice_get xs (length before)) (sym all) ∙ slice_get_middle before end behind))

@@ -4,3 +4,7 @@ pub mod SameLists
 pub mod Turns
 pub mod Running
 pub mod Joining
+pub mod Calls
+pub mod WholeCrew
+pub mod LeftSeats
+pub mod OpenedCrew

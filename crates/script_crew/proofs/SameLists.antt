@@ -32,7 +32,8 @@ same_list (x ∷ xs) (y ∷ ys) up up' same =
     (λ measure. omega (arith, same measure, sum_by-cons measure x xs, sum_by-cons measure y ys, ap measure first)) in
     λ i. first i ∷ rest i
 
-sum_by-map : {X : Type 0} (measure : ℕ → ℕ) (f : X → ℕ) (xs : List X) → sum_by measure (map f xs) ≡ sum_by (λ x. measure (f x)) xs
+-- a measure of what a function gives
+pub sum_by-map : {X : Type 0} (measure : ℕ → ℕ) (f : X → ℕ) (xs : List X) → sum_by measure (map f xs) ≡ sum_by (λ x. measure (f x)) xs
 sum_by-map measure f [] = refl
 sum_by-map measure f (x ∷ xs) = omega (arith, sum_by-cons measure (f x) (map f xs), sum_by-cons (λ y. measure (f y)) x xs, sum_by-map measure f xs)
 

@@ -1,20 +1,25 @@
 -- What a worker of a crew is given, and what it has done once the queue was empty.
-use Rattle.std.specs.Prelude.{◌≡◌, ℕ, ◌+◌, ◌≤◌, List, [], ◌++◌, length, map, slice_get, slice_index, All, Option, Some, Result, IfOk}
+use Rattle.std.specs.Prelude.{◌≡◌, ℕ, ◌+◌, ◌≤◌, List, [], ◌++◌, length, map, slice_get, slice_index, sum_by, All, Option, Some, Result, IfOk}
 use Rattle.std.specs.List.{range_with_len, AllPairs}
+use Rattle.atomic_table.specs.Seated.{TableId}
 use Rattle.heap_model.specs.declared.command.Command.{Command}
 use Rattle.heap_model.specs.declared.fault.Memory.{Memory}
+use Rattle.heap_model.specs.declared.heap.Heap.{Heap}
 use Rattle.crossbeam_queue.specs.declared.array_queue.Doing.{Doing}
 use Rattle.crossbeam_queue.specs.declared.array_queue.Slotted.{Slotted}
 use Rattle.crossbeam_queue.specs.Passes.{view, IsPassOf}
+use Rattle.heap_table.specs.SeatHeld.{SeatHeld}
+use Rattle.heap_runs.specs.CollectCall.{IsPresent}
+use Rattle.heap_runs.specs.SeatWork.{GoesOn, IsOfTable}
 use Rattle.script_crew.specs.declared.job.Job.{Job}
 use Rattle.script_crew.specs.declared.job.JobRun.{JobRun}
-use Rattle.script_crew.specs.declared.noted_seat.NotedSeat.{NotedSeat}
 use Rattle.script_crew.specs.declared.position_rule.Tally.{Tally}
-use Rattle.script_crew.specs.declared.crew.NotedCrew.{NotedCrew}
+use Rattle.script_crew.specs.declared.gathering.Crew.{Crew}
 use Rattle.script_crew.specs.declared.worker.Worker.{Worker}
 use Rattle.script_crew.specs.declared.worker.Worked.{Worked}
+use Rattle.script_crew.specs.Jobs.{calls_at, HasUsed}
 use Rattle.script_crew.specs.Positions.{tally}
-use Rattle.script_crew.specs.Runs.{job_numbers, run_numbers, seat_numbers, EndsBefore, IsRunOn, IsRunAmong}
+use Rattle.script_crew.specs.Runs.{job_numbers, run_numbers, seat_numbers, EndsBefore, IsRunOn, IsRunAmong, AreWhole}
 
 -- the positions of the jobs
 abbrev pub positions_of : List Job → List ℕ
@@ -24,45 +29,66 @@ positions_of jobs = range_with_len 0 (length jobs)
 abbrev pub numbers_at : List Job → List ℕ → List ℕ
 numbers_at jobs positions = map (λ position. slice_index (job_numbers jobs) position) positions
 
--- the seat has the number that it had, and to its log more was added
-pub record GoesOn (old new : NotedSeat) : Type 0 where
-  pub number_stays : new.number ≡ old.number
-  pub more : List Command
-  pub log_grows : new.log.items ≡ old.log.items ++ more
+-- the seat is one of the table, hasn't left, and has used no more numbers than runs of the jobs at these positions may
+pub record IsAtWork (jobs : List Job) (table : TableId) (heap : Heap) (positions : List ℕ) (seat : SeatHeld) : Type 0 where
+  pub of_table : IsOfTable table heap seat
+  pub present : IsPresent seat
+  pub used : HasUsed jobs positions seat
 
 -- the pass has popped some positions, and the seat has run the jobs at these positions, one after the other in their order
-pub record HasRun (jobs : List Job) (old new : Tally) (before after : NotedSeat) (runs : List JobRun) : Type 0 where
+pub record HasRun (jobs : List Job) (old new : Tally) (before after : SeatHeld) (runs : List JobRun) : Type 0 where
   pub positions : List ℕ
   pub popped : new ≡ tally old.shares old.pushed (old.popped ++ positions) old.known
   pub numbers : run_numbers runs ≡ numbers_at jobs positions
-  pub goes_on : GoesOn before after
+  pub commands : List Command
+  pub goes_on : GoesOn 1 before after commands
+  pub calls : length commands ≤ sum_by (calls_at jobs) positions
   pub on_seat : All (IsRunOn jobs after) runs
-  pub begin : All (λ run. length before.log.items ≤ run.from) runs
+  pub begin : All (λ run. length before.seat.mine ≤ run.from) runs
   pub in_turn : AllPairs EndsBefore runs
 
 -- the joined pass has the shares of so many workers more, and the seats of the crew have run the jobs whose positions it has popped
-pub record HaveRun (jobs : List Job) (old : Tally) (joined : ℕ) (new : Tally) (crew : NotedCrew) : Type 0 where
+pub record HaveRun (jobs : List Job) (table : TableId) (heap : Heap) (old : Tally) (joined : ℕ) (new : Tally) (crew : Crew) : Type 0 where
   pub positions : List ℕ
   pub popped : new ≡ tally (old.shares + joined) old.pushed positions old.known
   pub numbers : run_numbers crew.runs.items ≡ numbers_at jobs positions
   pub count : length crew.seats.items ≡ joined
   pub numbered : seat_numbers crew.seats.items ≡ range_with_len 0 joined
+  pub at_work : All (IsAtWork jobs table heap positions) crew.seats.items
   pub each : All (IsRunAmong jobs crew.seats.items) crew.runs.items
   pub in_turn : AllPairs EndsBefore crew.runs.items
 
+-- each job has one run, whole; and each seat of the crew, which has so many in the order of their numbers, is one of the table and hasn't left
+pub record HasRunAll (jobs : List Job) (table : TableId) (heap : Heap) (count : ℕ) (crew : Crew) : Type 0 where
+  pub whole : AreWhole jobs crew.seats.items crew.runs.items
+  pub numbered : seat_numbers crew.seats.items ≡ range_with_len 0 count
+  pub of_table : All (IsOfTable table heap) crew.seats.items
+  pub present : All IsPresent crew.seats.items
+
 module _ {Q A : Type 0} where
   -- the worker's pass is one of the queue, has one share, and has popped nothing
-  pub record IsFresh (queue : Slotted (Option ℕ) (Doing ℕ Tally) Q A) (known : List ℕ) (worker : Worker) : Type 0 where
+  pub record HasFreshPass (queue : Slotted (Option ℕ) (Doing ℕ Tally) Q A) (known : List ℕ) (worker : Worker) : Type 0 where
     pub of_queue : IsPassOf queue worker.pass
     pub untouched : view worker.pass ≡ tally 1 [] [] known
 
-  -- the seat of this number has run the jobs whose positions the worker's pass has popped
-  pub record HasWorked (queue : Slotted (Option ℕ) (Doing ℕ Tally) Q A) (jobs : List Job) (number : ℕ) (worked : Worked) : Type 0 where
+  -- so it is, and the worker's seat is one of the table, and fresh
+  pub record IsFresh (queue : Slotted (Option ℕ) (Doing ℕ Tally) Q A) (jobs : List Job) (table : TableId) (heap : Heap) (worker : Worker) : Type 0 where
+    pub pass : HasFreshPass queue (positions_of jobs) worker
+    pub at_work : IsAtWork jobs table heap [] worker.seat
+
+  -- the seat of this number, which was fresh, has run the jobs whose positions the worker's pass has popped
+  pub record HasWorked (queue : Slotted (Option ℕ) (Doing ℕ Tally) Q A) (jobs : List Job) (table : TableId) (heap : Heap) (number : ℕ) (worked : Worked) : Type 0 where
     pub of_queue : IsPassOf queue worked.worker.pass
-    pub before : NotedSeat
+    pub before : SeatHeld
     pub number_is : before.number ≡ number
+    pub at_work : IsAtWork jobs table heap [] before
     pub ran : HasRun jobs (tally 1 [] [] (positions_of jobs)) (view worked.worker.pass) before worked.worker.seat worked.runs.items
 
   -- each worker that came to its end has worked on the seat whose number is its position
-  abbrev pub HaveWorked : Slotted (Option ℕ) (Doing ℕ Tally) Q A → List Job → List (Result Worked Memory) → Type 0
-  HaveWorked queue jobs ends = (position : ℕ) (end : Result Worked Memory) → slice_get ends position ≡ Some end → IfOk end (HasWorked queue jobs position)
+  abbrev pub HaveWorked : Slotted (Option ℕ) (Doing ℕ Tally) Q A → List Job → TableId → Heap → List (Result Worked Memory) → Type 0
+  HaveWorked queue jobs table heap ends = (position : ℕ) (end : Result Worked Memory) → slice_get ends position ≡ Some end → IfOk end (HasWorked queue jobs table heap position)
+
+  -- there are so many workers, and each that came to its end has worked
+  pub record HaveEnded (queue : Slotted (Option ℕ) (Doing ℕ Tally) Q A) (jobs : List Job) (table : TableId) (heap : Heap) (count : ℕ) (ends : List (Result Worked Memory)) : Type 0 where
+    pub each_once : length ends ≡ count
+    pub worked : HaveWorked queue jobs table heap ends

@@ -1,87 +1,111 @@
-ghost use Rattle.std.specs.Prelude.{◌≡◌, ◌<◌, ◌≤◌, [], length, vec_len, IfOk};
+ghost use Rattle.std.specs.Prelude.{◌≡◌, ◌<◌, ◌≤◌, length, vec_len, All, IfOk};
 ghost use Rattle.std.specs.List.{range_with_len};
-ghost use Rattle.std.specs.List.Sorted.{IsStrictlyIncreasing};
-ghost use Rattle.crossbeam_queue.specs.Passes.{view, IsPassOf};
-ghost use Rattle.script_crew.specs.Runs.{job_numbers, seat_numbers, AreWhole};
-ghost use Rattle.script_crew.specs.Working.{positions_of, IsFresh, HasWorked, HaveWorked, HaveRun};
+ghost use Rattle.script_crew.specs.Crews.{IsFreshSeat, IsCrew, IsCrewRan};
+ghost use Rattle.script_crew.specs.Jobs.{AreJobs};
+ghost use Rattle.script_crew.specs.Runs.{seat_numbers};
+ghost use Rattle.script_crew.specs.Working.{HasRunAll};
 
 use crate::filling::{equip, push_positions};
+use crate::gathering::{Crew, run_rest};
 use crate::job::{Job, JobRun};
-use crate::noted_seat::NotedSeat;
-use crate::position_rule::{PositionPass, PositionQueue, Sharing};
-use crate::worker::{Worked, Worker, run_popped, work};
-use heap_model::Memory;
+use crate::leaving::leave_all;
+use crate::position_rule::PositionQueue;
+use crate::shift::work_all;
+use crate::site::Site;
+use collector_turns::Collector;
+use heap_model::{Gate, Memory};
+use heap_runs::{Held, HeldName, finish};
+use heap_table::Closed;
+use mutator_seat::Seat;
+use slack_pace::Pace;
 use std::alloc::Global;
-use std::sync::Wait;
-use std::thread::{Threads, map_vec};
+use std::marker::Brand;
+use std::sync::{Mutex, Wait};
+use std::thread::Threads;
 
-/// What a crew came to: its seats, and the runs of its jobs.
+/// What a crew came to: the closed table, and the runs of the jobs.
 #[derive(Drop)]
-pub struct NotedCrew {
-    pub seats: Vec<NotedSeat>,
+pub struct CrewRan {
+    pub closed: Closed,
     pub runs: Vec<JobRun>,
 }
 
-/// Takes in the workers' passes, and lists their seats, and their runs one worker behind the other.
-fn join_all(
-    alloc: Global,
-    queue: &PositionQueue,
-    jobs: &[Job],
-    pass: &mut PositionPass,
-    done: Vec<Result<Worked, Memory>>,
-) -> Result<NotedCrew, Memory>
-    requires queue { IsPassOf queue.now pass.old }
-    requires some { 0 < (view pass.old).shares }
-    requires popped { (view pass.old).popped ≡ [] }
-    requires known { (view pass.old).known ≡ positions_of jobs.now }
-    requires worked { HaveWorked queue.now jobs.now done.items }
-    ensures queue { IsPassOf queue.now pass.new }
-    ensures joined { IfOk result (λ crew. HaveRun jobs.now (view pass.old) (vec_len done) (view pass.new) crew) }
-{
-    let mut crew = NotedCrew {
-        seats: Vec::new(alloc),
-        runs: Vec::new(alloc),
-    };
-    for one in done {
-        let Worked { worker, mut runs } = one?;
-        queue.absorb::<Sharing>(pass, worker.pass);
-        crew.seats.push(worker.seat)?;
-        crew.runs.append(&mut runs)?;
-    }
-    Ok(crew)
-}
-
-/// Runs the jobs on the seats, each seat's worker in a thread of its own, and what is left of them on the first seat. Where a thread can't be had the caller does its work.
-pub fn run_noted<R: Threads + Wait + Sync>(
+/// Runs the jobs on the seats, each seat's worker in a thread of its own, and what is left of them then on the first seat.
+fn run_jobs<N: HeldName + Send + Sync, G: Gate, R: Threads + Wait + Sync>(
     rt: &R,
     alloc: Global,
-    seats: Vec<NotedSeat>,
+    held: &Mutex<Held<N>>,
+    seats: Vec<Seat>,
     jobs: &[Job],
-) -> Result<NotedCrew, Memory>
+    gate: &G,
+) -> Result<Crew, Memory>
     requires some { 0 < length jobs.now }
-    requires jobs { length jobs.now ≤ 4096 }
-    requires rising { IsStrictlyIncreasing (job_numbers jobs.now) }
+    requires jobs { AreJobs jobs.now }
     requires seat { 0 < vec_len seats }
     requires seats { vec_len seats ≤ 16 }
     requires numbered { seat_numbers seats.items ≡ range_with_len 0 (vec_len seats) }
-    ensures whole { IfOk result (λ crew. AreWhole jobs.now crew.seats.items crew.runs.items) }
-    ensures numbered { IfOk result (λ crew. seat_numbers crew.seats.items ≡ seat_numbers seats.items) }
+    requires fresh { All (IsFreshSeat N.table N.heap) seats.items }
+    ensures { IfOk result (HasRunAll jobs.now N.table N.heap (vec_len seats)) }
 {
     let (queue, mut pass) = PositionQueue::ruled(alloc, jobs.len())?;
     let queue = &queue;
     push_positions(rt, queue, &mut pass, jobs.len() as u32);
     let workers = equip(alloc, queue, &mut pass, seats)?;
-    let done = map_vec(
-        rt,
-        workers,
-        &|worker: Worker| -> Result<Worked, Memory>
-            requires { IsFresh queue.now (positions_of jobs.now) worker }
-            ensures { IfOk result (HasWorked queue.entry.now jobs.entry.now worker.seat.number) }
-        { work(rt, alloc, queue, jobs, worker) },
-    )?;
-    let mut crew = join_all(alloc, queue, jobs, &mut pass, done)?;
-    let mut rest = run_popped(rt, alloc, queue, jobs, &mut pass, &mut crew.seats[0])?;
-    crew.runs.append(&mut rest)?;
-    crew.runs.sort_unstable_by_key(|run: &JobRun| run.job);
-    Ok(crew)
+    let site = Site {
+        alloc,
+        queue,
+        jobs,
+        gate,
+    };
+    let done = work_all(rt, held, &site, workers)?;
+    run_rest(rt, held, &site, &mut pass, done)
+}
+
+/// A crew whose table and collector its name tells.
+fn run_named<N: HeldName + Send + Sync, G: Gate, R: Threads + Wait + Sync>(
+    rt: &R,
+    alloc: Global,
+    seats: Vec<Seat>,
+    collector: Collector,
+    jobs: &[Job],
+    pace: Box<dyn Pace>,
+    gate: &G,
+) -> Result<CrewRan, Memory>
+    requires table { collector.holder.table ≡ N.table }
+    requires heap { collector.holder.heap ≡ N.heap }
+    requires before { collector.holder.known.collector.log ≡ N.before }
+    requires crew { IsCrew seats.items collector }
+    requires some { 0 < length jobs.now }
+    requires jobs { AreJobs jobs.now }
+    ensures { IfOk result (IsCrewRan jobs.now collector) }
+{
+    // What is true of every collector's heap is known from here on.
+    let _ = collector.heap();
+    let held = Mutex::new(Held::<N>::new(collector, pace));
+    let Crew { seats, runs, .. } = run_jobs(rt, alloc, &held, seats, jobs, gate)?;
+    let gone = leave_all(alloc, seats)?;
+    let Held { collector, .. } = held.into_inner();
+    let closed = finish(rt, alloc, collector, gone)?;
+    Ok(CrewRan { closed, runs })
+}
+
+/// Runs the jobs on the seats of one table, and the collector's slack turns, which the pace asks for, beside them; no lock stands round a word of the heap. Each seat's worker, in a thread of
+/// its own, takes a job from a queue of all of them, sets registers 1 to 15 to nil, makes the job's commands with a poll behind each, and takes the next. It passes the gate before each
+/// command of a job. What is left once all workers have ended is run on seat 0. Then all seats leave and are folded in, a last cycle is made, and the table is closed. The only error is want
+/// of memory. Which seat runs a job isn't said.
+pub fn run_crew<G: Gate, R: Threads + Wait + Sync>(
+    rt: &R,
+    alloc: Global,
+    seats: Vec<Seat>,
+    collector: Collector,
+    jobs: &[Job],
+    pace: Box<dyn Pace>,
+    gate: &G,
+) -> Result<CrewRan, Memory>
+    requires crew { IsCrew seats.items collector }
+    requires some { 0 < length jobs.now }
+    requires jobs { AreJobs jobs.now }
+    ensures { IfOk result (IsCrewRan jobs.now collector) }
+{
+    run_named::<Brand, G, R>(rt, alloc, seats, collector, jobs, pace, gate)
 }

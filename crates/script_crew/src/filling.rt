@@ -2,12 +2,12 @@ ghost use Rattle.std.specs.Prelude.{◌≡◌, ◌-◌, ◌<◌, ◌≤◌, [], 
 ghost use Rattle.std.specs.List.{range_with_len};
 ghost use Rattle.crossbeam_queue.specs.Passes.{view, IsPassOf, ruled_capacity};
 ghost use Rattle.script_crew.specs.Positions.{all_shares, tally};
-ghost use Rattle.script_crew.specs.Working.{IsFresh};
+ghost use Rattle.script_crew.specs.Working.{HasFreshPass};
 
-use crate::noted_seat::NotedSeat;
 use crate::position_rule::{PositionPass, PositionQueue, Pushing, Sharing};
 use crate::worker::Worker;
 use heap_model::Memory;
+use mutator_seat::Seat;
 use std::alloc::Global;
 use std::sync::Wait;
 
@@ -32,14 +32,14 @@ pub fn equip(
     alloc: Global,
     queue: &PositionQueue,
     pass: &mut PositionPass,
-    seats: Vec<NotedSeat>,
+    seats: Vec<Seat>,
 ) -> Result<Vec<Worker>, Memory>
     requires queue { IsPassOf queue.now pass.old }
     requires shares { vec_len seats < (view pass.old).shares }
     ensures queue { IsPassOf queue.now pass.new }
     ensures rest { OnOk result (view pass.new ≡ tally ((view pass.old).shares - vec_len seats) (view pass.old).pushed (view pass.old).popped (view pass.old).known) }
     ensures seats { IfOk result (λ workers. map (λ worker. worker.seat) workers.items ≡ seats.items) }
-    ensures fresh { IfOk result (λ workers. All (IsFresh queue.now (view pass.old).known) workers.items) }
+    ensures passes { IfOk result (λ workers. All (HasFreshPass queue.now (view pass.old).known) workers.items) }
 {
     let mut workers = Vec::new(alloc);
     for seat in seats {

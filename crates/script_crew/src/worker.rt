@@ -1,52 +1,58 @@
 ghost use Rattle.std.specs.Prelude.{◌≡◌, ◌<◌, IfOk, OnOk};
-ghost use Rattle.crossbeam_queue.specs.Fifo.{Held};
+ghost use Rattle.crossbeam_queue.specs.Fifo.{Held as HeldItems};
 ghost use Rattle.crossbeam_queue.specs.Passes.{view, IsPassOf};
+ghost use Rattle.script_crew.specs.Jobs.{AreJobs};
 ghost use Rattle.script_crew.specs.Positions.{Settles};
-ghost use Rattle.script_crew.specs.Working.{positions_of, HasRun, IsFresh, HasWorked};
+ghost use Rattle.script_crew.specs.Working.{positions_of, IsAtWork, HasRun, IsFresh, HasWorked};
 
-use crate::job::{Job, JobRun};
+use crate::job::JobRun;
 use crate::job_run::run_job;
-use crate::noted_seat::NotedSeat;
-use crate::position_rule::{Popping, PositionPass, PositionQueue};
-use heap_model::Memory;
-use std::alloc::Global;
-use std::sync::Wait;
+use crate::position_rule::{Popping, PositionPass};
+use crate::site::Site;
+use heap_model::{Gate, Memory};
+use heap_runs::{Held, HeldName};
+use mutator_seat::Seat;
+use std::sync::{Mutex, Wait};
 
 /// A seat and a pass of the queue: what a worker takes along and hands back.
 #[derive(Drop)]
 pub struct Worker {
-    pub seat: NotedSeat,
+    pub seat: Seat,
     pub pass: PositionPass,
 }
 
-/// What a worker hands back: itself, and its runs in the order in which it made them.
+/// What a worker hands back: itself, its runs in the order in which it made them, and how many commands of jobs its seat has begun.
 #[derive(Drop)]
 pub struct Worked {
     pub worker: Worker,
     pub runs: Vec<JobRun>,
+    pub begun: u32,
 }
 
 /// Runs on the seat each job whose position the pass pops, until the queue answers that it is empty.
-pub fn run_popped<R: Wait>(
+pub fn run_popped<N: HeldName, G: Gate, R: Wait>(
     rt: &R,
-    alloc: Global,
-    queue: &PositionQueue,
-    jobs: &[Job],
+    held: &Mutex<Held<N>>,
+    site: &Site<G>,
     pass: &mut PositionPass,
-    seat: &mut NotedSeat,
+    seat: &mut Seat,
+    begun: &mut u32,
 ) -> Result<Vec<JobRun>, Memory>
-    requires queue { IsPassOf queue.now pass.old }
+    requires queue { IsPassOf site.now.queue.now pass.old }
     requires shares { 0 < (view pass.old).shares }
-    requires known { (view pass.old).known ≡ positions_of jobs.now }
-    ensures queue { IsPassOf queue.now pass.new }
-    ensures ran { IfOk result (λ runs. HasRun jobs.now (view pass.old) (view pass.new) seat.old seat.new runs.items) }
-    ensures empty { OnOk result (Held 0 (Settles (view pass.new))) }
+    requires known { (view pass.old).known ≡ positions_of site.now.jobs.now }
+    requires jobs { AreJobs site.now.jobs.now }
+    requires seat { IsAtWork site.now.jobs.now N.table N.heap (view pass.old).popped seat.old }
+    ensures queue { IsPassOf site.now.queue.now pass.new }
+    ensures ran { IfOk result (λ runs. HasRun site.now.jobs.now (view pass.old) (view pass.new) seat.old seat.new runs.items) }
+    ensures empty { OnOk result (HeldItems 0 (Settles (view pass.new))) }
 {
-    let mut runs = Vec::new(alloc);
+    let mut runs = Vec::new(site.alloc);
     for _ in rt.forever() {
-        match queue.pop_as::<Popping, R>(rt, pass) {
+        match site.queue.pop_as::<Popping, R>(rt, pass) {
             Some(position) => {
-                let run = run_job(seat, &jobs[position as usize])?;
+                let job = &site.jobs[position as usize];
+                let run = run_job(rt, held, seat, job, site.gate, begun)?;
                 runs.push(run)?;
             }
             None => return Ok(runs),
@@ -56,16 +62,44 @@ pub fn run_popped<R: Wait>(
 }
 
 /// Runs each job whose position the worker pops, until the queue is empty.
-pub fn work<R: Wait>(
+fn run_all<N: HeldName, G: Gate, R: Wait>(
     rt: &R,
-    alloc: Global,
-    queue: &PositionQueue,
-    jobs: &[Job],
+    held: &Mutex<Held<N>>,
+    site: &Site<G>,
     mut worker: Worker,
 ) -> Result<Worked, Memory>
-    requires { IsFresh queue.now (positions_of jobs.now) worker }
-    ensures { IfOk result (HasWorked queue.now jobs.now worker.seat.number) }
+    requires jobs { AreJobs site.now.jobs.now }
+    requires fresh { IsFresh site.now.queue.now site.now.jobs.now N.table N.heap worker }
+    ensures { IfOk result (HasWorked site.now.queue.now site.now.jobs.now N.table N.heap worker.seat.number) }
 {
-    let runs = run_popped(rt, alloc, queue, jobs, &mut worker.pass, &mut worker.seat)?;
-    Ok(Worked { worker, runs })
+    let mut begun = 0;
+    let runs = run_popped(
+        rt,
+        held,
+        site,
+        &mut worker.pass,
+        &mut worker.seat,
+        &mut begun,
+    )?;
+    Ok(Worked {
+        worker,
+        runs,
+        begun,
+    })
+}
+
+/// Does the work of the worker, and tells under the lock that it has ended, also where memory is wanting.
+pub fn work<N: HeldName, G: Gate, R: Wait>(
+    rt: &R,
+    held: &Mutex<Held<N>>,
+    site: &Site<G>,
+    worker: Worker,
+) -> Result<Worked, Memory>
+    requires jobs { AreJobs site.now.jobs.now }
+    requires fresh { IsFresh site.now.queue.now site.now.jobs.now N.table N.heap worker }
+    ensures { IfOk result (HasWorked site.now.queue.now site.now.jobs.now N.table N.heap worker.seat.number) }
+{
+    let worked = run_all(rt, held, site, worker);
+    held.lock(rt).end_one();
+    worked
 }

@@ -4,11 +4,11 @@ use Rattle.std.specs.Vec.Iter.{into_iter_items}
 use Rattle.std.proofs.lemmas.List.{length-append, map-append}
 use Rattle.std.proofs.lemmas.List.Elements.{All-push}
 use Rattle.crossbeam_queue.specs.Passes.{view}
-use Rattle.script_crew.specs.declared.noted_seat.NotedSeat.{NotedSeat}
+use Rattle.heap_table.specs.SeatHeld.{SeatHeld}
 use Rattle.script_crew.specs.declared.position_rule.Tally.{Tally}
 use Rattle.script_crew.specs.declared.worker.Worker.{Worker}
 use Rattle.script_crew.specs.Positions.{tally}
-use Rattle.script_crew.specs.Working.{IsFresh}
+use Rattle.script_crew.specs.Working.{HasFreshPass}
 use Rattle.script_crew.proofs.PassMoves.{keeps-fork}
 use Rattle.script_crew.proofs.filling.equip.Goals as goal
 
@@ -20,7 +20,7 @@ pub loop-seat-preserved : goal.loop-seat-preserved
 loop-seat-preserved c =
     let had = c.loop-seat.invariant in
     let own = c.another-own.ensures in
-    let seat : Worker → NotedSeat = λ worker. worker.seat in
+    let seat : Worker → SeatHeld = λ worker. worker.seat in
     let workers = c.loop-seat.workers.items in
     let worker : Worker = record { seat = c.in-Some.seat; pass = c.another-own.result } in
     let rest = into_iter_items c.next.new.self in
@@ -32,6 +32,6 @@ loop-seat-preserved c =
       omega (arith, count, ap (λ xs. length xs) c.in-Some.ensures.steps.0, had.2),
       ap (λ xs. map seat xs ++ rest) c.in_ok-push.ensures.items
           ∙ (ap (λ xs. xs ++ rest) (map-append seat workers (worker ∷ [])) ∙ (append_assoc (map seat workers) (c.in-Some.seat ∷ []) rest ∙ (ap (λ xs. map seat workers ++ xs) (sym c.in-Some.ensures.steps.0) ∙ had.3))),
-      subst (All (IsFresh c.args.queue.now (view c.args.pass.now).known)) (sym c.in_ok-push.ensures.items)
-          (All-push (IsFresh c.args.queue.now (view c.args.pass.now).known) workers worker had.4 (record { of_queue = own.queue.1; untouched = own.rule.1 ∙ ap (λ all. tally 1 [] [] all) known })),
+      subst (All (HasFreshPass c.args.queue.now (view c.args.pass.now).known)) (sym c.in_ok-push.ensures.items)
+          (All-push (HasFreshPass c.args.queue.now (view c.args.pass.now).known) workers worker had.4 (record { of_queue = own.queue.1; untouched = own.rule.1 ∙ ap (λ all. tally 1 [] [] all) known })),
     )

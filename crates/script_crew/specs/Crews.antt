@@ -1,0 +1,35 @@
+-- What a crew is given, and what it has come to once its table is closed.
+use Rattle.std.specs.Prelude.{◌≡◌, List, All}
+use Rattle.std.specs.List.{range_with_len}
+use Rattle.atomic_table.specs.Seated.{TableId}
+use Rattle.heap_model.specs.declared.heap.Heap.{Heap}
+use Rattle.heap_table.specs.SeatHeld.{SeatHeld}
+use Rattle.collector_turns.specs.Collector.{CollectorValue}
+use Rattle.heap_runs.specs.CollectCall.{IsPresent}
+use Rattle.heap_runs.specs.Finishing.{HasLogs, EndsUnused}
+use Rattle.heap_runs.specs.SeatWork.{IsOfTable, objects_of, sets_of}
+use Rattle.script_crew.specs.declared.crew.CrewRan.{CrewRan}
+use Rattle.script_crew.specs.declared.job.Job.{Job}
+use Rattle.script_crew.specs.Runs.{seat_numbers, AreWhole}
+
+-- the seat is one of the table, hasn't left, and has made no object and done no set
+pub record IsFreshSeat (table : TableId) (heap : Heap) (seat : SeatHeld) : Type 0 where
+  pub of_table : IsOfTable table heap seat
+  pub present : IsPresent seat
+  pub no_objects : objects_of seat ≡ 0
+  pub no_sets : sets_of seat ≡ 0
+
+-- these are all seats of the collector's table, in the order of their numbers, and each is fresh
+pub record IsCrew (seats : List SeatHeld) (collector : CollectorValue) : Type 0 where
+  pub numbered : seat_numbers seats ≡ range_with_len 0 collector.holder.heap.seats
+  pub fresh : All (IsFreshSeat collector.holder.table collector.holder.heap) seats
+
+-- the runs of the jobs are whole on the seats whose logs stand in the closed table, in the order of the seats' numbers and before that of the collector, which has gone on; one legal
+-- history has exactly these logs, the words stand for it, and at its end nothing is in use
+pub record IsCrewRan (jobs : List Job) (collector : CollectorValue) (ran : CrewRan) : Type 0 where
+  pub of_heap : ran.closed.heap ≡ collector.holder.heap
+  pub seats : List SeatHeld
+  pub numbered : seat_numbers seats ≡ range_with_len 0 collector.holder.heap.seats
+  pub whole : AreWhole jobs seats ran.runs.items
+  pub logs : HasLogs seats collector.holder.known.collector.log ran.closed
+  pub unused : EndsUnused ran.closed
