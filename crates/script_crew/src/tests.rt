@@ -1,7 +1,7 @@
 ghost use Rattle.std.specs.Prelude.{◌≡◌, ◌≤◌, ◌<◌, ◌*◌, length, All, IfOk, IsTrue};
 ghost use Rattle.std.specs.List.Sorted.{IsStrictlyIncreasing};
 ghost use Rattle.heap_model.specs.Heap.{IsHeap};
-ghost use Rattle.script_crew.specs.Jobs.{IsJob, command_count};
+ghost use Rattle.script_crew.specs.Jobs.{AreJobs, IsJob, command_count};
 ghost use Rattle.script_crew.specs.Runs.{job_numbers};
 
 mod meeting;
