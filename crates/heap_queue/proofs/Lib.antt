@@ -1,0 +1,13 @@
+pub mod Chains
+pub mod EveryHistory
+pub mod EveryMove
+pub mod GraphViews
+pub mod HeapCalls
+pub mod Linking
+pub mod MakeMoves
+pub mod Moves
+pub mod Others
+pub mod PutMoves
+pub mod QueueLaws
+pub mod TakeMoves
+pub mod Views
