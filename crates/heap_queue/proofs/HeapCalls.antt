@@ -66,9 +66,9 @@ behind place call rest number unborn last commands.Collect reply before whole co
 behind place call rest number unborn last command reply before whole comes = subst (λ (log : List Entry). IsWhole place (log ++ rest) call) (sym comes) whole
 
 -- the call goes on with this call of the heap
-pub goes : (place : Place) (old now new : SeatState) (command : Command) (reply shown : Reply) (call : Call) → Adds old now command shown → shown ≡ reply → IsStep place command → ends place command reply ≡ None → Completes (after place command reply) now new call
-    → Completes place old new call
-goes place old now new command reply shown call adds same step none more =
+pub goes : {old now new : SeatState} {shown : Reply} {call : Call} (place : Place) (command : Command) (reply : Reply) → Adds old now command shown → shown ≡ reply → IsStep place command → ends place command reply ≡ None
+    → Completes (after place command reply) now new call → Completes place old new call
+goes {old} {now} {new} {shown} {call} place command reply adds same step none more =
     let said : Entry = Said old.number command reply in
     let whole : IsWhole place (said ∷ more.added) call = (step, inr (none, more.whole)) in record {
       added = adds.before ++ said ∷ more.added;
@@ -78,8 +78,8 @@ goes place old now new command reply shown call adds same step none more =
     }
 
 -- the call ends with it
-pub ends_so : (place : Place) (old new : SeatState) (command : Command) (reply shown : Reply) (call : Call) → Adds old new command shown → shown ≡ reply → IsStep place command → ends place command reply ≡ Some call → Completes place old new call
-ends_so place old new command reply shown call adds same step is =
+pub ends_so : {old new : SeatState} {shown : Reply} {call : Call} (place : Place) (command : Command) (reply : Reply) → Adds old new command shown → shown ≡ reply → IsStep place command → ends place command reply ≡ Some call → Completes place old new call
+ends_so {old} {new} {shown} {call} place command reply adds same step is =
     let said : Entry = Said old.number command reply in
     let whole : IsWhole place (said ∷ []) call = (step, inl (is, refl)) in record {
       added = adds.before ++ said ∷ [];
@@ -92,20 +92,19 @@ ends_refused : (place : Place) (command : Command) (call : Call) → ends place 
 ends_refused place command call no_object no_field refusals.NoObject = no_object
 ends_refused place command call no_object no_field refusals.NoField = no_field
 
-pub refused : (place : Place) (old new : SeatState) (command : Command) (refusal : PlaceRefusal) (shown : Reply) (call : Call) → Adds old new command shown → shown ≡ refusal_reply refusal → IsStep place command
+pub refused : {old new : SeatState} {shown : Reply} {call : Call} (place : Place) (command : Command) (refusal : PlaceRefusal) → Adds old new command shown → shown ≡ refusal_reply refusal → IsStep place command
     → ends place command replies.NoObject ≡ Some call → ends place command replies.NoField ≡ Some call → Completes place old new call
-refused place old new command refusal shown call adds same step no_object no_field =
-    ends_so place old new command (refusal_reply refusal) shown call adds same step (ends_refused place command call no_object no_field refusal)
+refused {old} {new} {shown} {call} place command refusal adds same step no_object no_field = ends_so place command (refusal_reply refusal) adds same step (ends_refused place command call no_object no_field refusal)
 
 -- what one call of the heap spends
-pub spends_one : (old new : SeatState) (command : Command) (reply : Reply) → command ≢ commands.Leave → Adds old new command reply → Spends (most_made command) (most_stamped command) (2 * need_of command + 2) old new
-spends_one old new command reply other adds =
+pub spends : {old new : SeatState} {reply : Reply} (command : Command) → command ≢ commands.Leave → Adds old new command reply → Spends (most_made command) (most_stamped command) (2 * need_of command + 2) old new
+spends {old} {new} {reply} command other adds =
     let counts = each_call_counts old new command reply adds in
     record { heap = adds.heap; number = adds.number; left = counts.present_stays other; made = counts.made_more; sets = counts.sets_more; spare = let r = each_call_leaves_room old new command reply adds in omega arith }
 
--- what two spend
-pub spends_both : (names stamps room a b c d e f : ℕ) (old now new : SeatState) → Spends a b c old now → Spends d e f now new → a + d ≤ names → b + e ≤ stamps → c + f ≤ room → Spends names stamps room old new
-spends_both names stamps room a b c d e f old now new one two n s r = record {
+-- what is spent in two steps
+pub spends_both : {a b c d e f : ℕ} {old now new : SeatState} → Spends a b c old now → Spends d e f now new → Spends (a + d) (b + e) (c + f) old new
+spends_both one two = record {
   heap = two.heap ∙ one.heap;
   number = two.number ∙ one.number;
   left = two.left ∙ one.left;
@@ -114,8 +113,14 @@ spends_both names stamps room a b c d e f old now new one two n s r = record {
   spare = let x = one.spare in let y = two.spare in omega arith;
 }
 
-pub spends_most : (names stamps room a b c : ℕ) (old new : SeatState) → Spends a b c old new → a ≤ names → b ≤ stamps → c ≤ room → Spends names stamps room old new
-spends_most names stamps room a b c old new one n s r = record {
+-- and with one call of the heap more
+pub spends_more : {a b c : ℕ} {old now new : SeatState} {reply : Reply} (command : Command) → command ≢ commands.Leave → Spends a b c old now → Adds now new command reply
+    → Spends (a + most_made command) (b + most_stamped command) (c + (2 * need_of command + 2)) old new
+spends_more command other one adds = spends_both one (spends command other adds)
+
+-- that is no more than so much
+pub spends_most : {a b c : ℕ} {old new : SeatState} (names stamps room : ℕ) → Spends a b c old new → a ≤ names → b ≤ stamps → c ≤ room → Spends names stamps room old new
+spends_most names stamps room one n s r = record {
   heap = one.heap;
   number = one.number;
   left = one.left;
@@ -125,15 +130,15 @@ spends_most names stamps room a b c old new one n s r = record {
 }
 
 -- what is left then
-pub left_after : (names stamps room a b c n s r : ℕ) (old new : SeatState) → HasLeft names stamps room old → Spends a b c old new → n + a ≤ names → s + b ≤ stamps → r + c ≤ room → HasLeft n s r new
-left_after names stamps room a b c n s r old new has spends x y z = record {
-  present = spends.left ∙ has.present;
-  names_left = let e = has.names_left in let f = spends.made in omega arith;
-  stamps_left = let e = has.stamps_left in let f = spends.sets in omega arith;
-  room_left = let e = has.room_left in let f = spends.spare in omega arith;
+pub left_then : {names stamps room a b c : ℕ} {old new : SeatState} (n s r : ℕ) → HasLeft names stamps room old → Spends a b c old new → n + a ≤ names → s + b ≤ stamps → r + c ≤ room → HasLeft n s r new
+left_then n s r has one x y z = record {
+  present = one.left ∙ has.present;
+  names_left = let e = has.names_left in let f = one.made in omega arith;
+  stamps_left = let e = has.stamps_left in let f = one.sets in omega arith;
+  room_left = let e = has.room_left in let f = one.spare in omega arith;
 }
 
--- the seat may be given the command
+-- a number is left for the command
 numbered : (seat : SeatState) (command : Command) (room : ℕ) → HasLeft (most_made command) (most_stamped command) room seat → HasNumber seat command
 numbered seat (commands.New d fields) room has = has.names_left
 numbered seat (commands.Array d cells) room has = has.names_left
@@ -141,5 +146,20 @@ numbered seat (commands.Set r i v) room has = has.stamps_left
 numbered seat (commands.Cas r i a v) room has = has.stamps_left
 numbered seat command room has = tt
 
-pub is_ready : (seat : SeatState) (command : Command) → HasLeft (most_made command) (most_stamped command) (2 * need_of command + 4) seat → IsCommand command → IsReady seat command
-is_ready seat command has in_range = record { present = has.present; in_range = in_range; room = has.room_left; numbered = numbered seat command (2 * need_of command + 4) has }
+-- the seat may be given the command, first
+pub is_ready : {seat : SeatState} (command : Command) → HasLeft (most_made command) (most_stamped command) (2 * need_of command + 4) seat → IsCommand command → IsReady seat command
+is_ready {seat} command has in_range = record { present = has.present; in_range = in_range; room = has.room_left; numbered = numbered seat command (2 * need_of command + 4) has }
+
+-- and after others
+pub is_ready_then : {names stamps room a b c : ℕ} {old now : SeatState} (command : Command) → HasLeft names stamps room old → Spends a b c old now → most_made command + a ≤ names → most_stamped command + b ≤ stamps → 2 * need_of command + 4 + c ≤ room
+    → IsCommand command → IsReady now command
+is_ready_then command has one x y z in_range = is_ready command (left_then (most_made command) (most_stamped command) (2 * need_of command + 4) has one x y z) in_range
+
+-- the seat has at least so much left
+pub left_less : {names stamps room : ℕ} {seat : SeatState} (n s r : ℕ) → HasLeft names stamps room seat → n ≤ names → s ≤ stamps → r ≤ room → HasLeft n s r seat
+left_less n s r has x y z = record {
+  present = has.present;
+  names_left = let e = has.names_left in omega arith;
+  stamps_left = let e = has.stamps_left in omega arith;
+  room_left = let e = has.room_left in omega arith;
+}

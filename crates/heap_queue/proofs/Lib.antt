@@ -7,6 +7,7 @@ pub mod Linking
 pub mod MakeMoves
 pub mod Moves
 pub mod Others
+pub mod PutCalls
 pub mod PutMoves
 pub mod QueueLaws
 pub mod TakeMoves

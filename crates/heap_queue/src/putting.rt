@@ -30,7 +30,8 @@ pub fn put<S: SeatCalls>(seat: &mut S, v: u8) -> PutReply
             let _ = seat.cas(0, 1, 14, 13);
             PutReply::Again { stamp }
         }
-        Ok((Value::Nil | Value::Number(_), _)) => link(seat, v),
+        Ok((Value::Nil, _)) => link(seat, v),
+        Ok((Value::Number(_), _)) => link(seat, v),
     }
 }
 

@@ -21,7 +21,8 @@ pub fn take<S: SeatCalls>(seat: &mut S, d: u8) -> TakeReply
     match seat.get(12, 14, 1) {
         Err(_) => TakeReply::NoQueue,
         Ok((Value::Nil, _)) => TakeReply::Empty,
-        Ok((Value::Object(_) | Value::Number(_), stamp)) => take_front(seat, d, stamp),
+        Ok((Value::Object(_), stamp)) => take_front(seat, d, stamp),
+        Ok((Value::Number(_), stamp)) => take_front(seat, d, stamp),
     }
 }
 
