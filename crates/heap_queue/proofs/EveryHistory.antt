@@ -1,9 +1,8 @@
 -- What a whole history of a queue comes to.
-use Rattle.std.proofs.Common.{◌≡◌, ◌≢◌, ℕ, zero, ◌+◌, ◌<◌, ◌≤◌, inl, inr, Bool, true, false, cond, eqb, List, [], ◌∷◌, ◌++◌, length, get_or, Option, Some, None, refl, sym, ap, ◌∙◌, subst, arith, length-set}
-use Rattle.std.specs.Option.{IfSome}
-use Rattle.std.proofs.lemmas.Bool.{cases_eq, cases_lt}
+use Rattle.std.proofs.Common.{◌≡◌, ◌≢◌, ℕ, ◌<◌, ◌≤◌, inl, inr, Bool, true, false, cond, List, [], ◌∷◌, ◌++◌, length, refl, sym, ap, ◌∙◌, subst, arith, length-set}
+use Rattle.std.proofs.lemmas.Bool.{cases_eq}
 use Rattle.std.proofs.lemmas.Bool.Decides.{eqb_tells}
-use Rattle.std.proofs.lemmas.List.{get_or-replicate, get_or_past, length-replicate}
+use Rattle.std.proofs.lemmas.List.{get_or-replicate, length-replicate}
 use Rattle.heap_model.specs.declared.command.Command.{Command}
 use Rattle.heap_model.specs.declared.command.Command.TheVariants as commands
 use Rattle.heap_model.specs.declared.entry.Entry.{Entry}
@@ -21,22 +20,20 @@ use Rattle.heap_model.specs.account.Cycles.{graph_of}
 use Rattle.heap_model.specs.account.Effects.{is_of}
 use Rattle.heap_model.specs.graph.Changes.{write, count_set}
 use Rattle.heap_model.specs.graph.Graph.{Graph, opening, opening_graph_seat, unset}
-use Rattle.heap_model.specs.graph.Growth.{after_entry, after_reply, graph_after}
+use Rattle.heap_model.specs.graph.Growth.{after_entry, after_reply}
 use Rattle.heap_model.specs.graph.Legal.{Accepts, AcceptsAll, IsObjectLegal}
 use Rattle.heap_model.specs.graph.Objects.{graph_seat, register_value}
 use Rattle.heap_model.proofs.Histories.{graph_after-more, AcceptsAll-more}
 use Rattle.heap_model.proofs.call_lemmas.BoardLemmas.{first_register_holds_board}
 use Rattle.heap_model.proofs.graph_changes.GraphGrowth.{present_seat_within_graph}
 use Rattle.heap_model.proofs.graph_changes.GraphRegisters.{has_sixteen_registers}
-use Rattle.heap_queue.specs.Calls.{Call, ends}
 use Rattle.heap_queue.specs.Effects.{Places, Effect, Put, Took, Empty, Serves, effects, effects_from, start, moved}
 use Rattle.heap_queue.specs.Histories.{IsQueueLog, IsQueueHistory}
 use Rattle.heap_queue.specs.Laws.{HoldsOfEach}
 use Rattle.heap_queue.specs.Places.{Place, MakesNode, Waits, IsDue, after}
-use Rattle.heap_queue.proofs.Views.{View}
 use Rattle.heap_queue.proofs.GraphViews.{view_of, answers}
 use Rattle.heap_queue.proofs.Moves.{IsSound}
-use Rattle.heap_queue.proofs.MakeMoves.{IsOutside, Making, Stage, unmade, Comes, every_move}
+use Rattle.heap_queue.proofs.MakeMoves.{IsOutside, Making, Stage, unmade, every_move}
 
 -- no entry changes how many seats there are
 seats_by_write : (g : Graph) (value : Value) (i : ℕ) (cell : Cell) → length (write g value i cell).seats ≡ length g.seats

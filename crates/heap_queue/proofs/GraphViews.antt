@@ -1,5 +1,5 @@
 -- The view of a graph, and that each entry which the graph accepts changes it as its reply tells.
-use Rattle.std.proofs.Common.{◌≡◌, ◌≢◌, ℕ, suc, ◌+◌, ◌<◌, ◌⊎◌, inl, inr, false, true, List, [], ◌∷◌, length, get_or, set, replicate, Option, Some, None, Result, Ok, Err, refl, sym, ap, ◌∙◌, subst, arith, length-set}
+use Rattle.std.proofs.Common.{◌≡◌, ◌≢◌, ℕ, ◌+◌, ◌<◌, ◌⊎◌, inl, inr, false, true, List, [], length, get_or, set, replicate, Option, Some, None, Result, Ok, refl, sym, ap, ◌∙◌, subst, arith, length-set}
 use Rattle.std.proofs.lemmas.Bool.{cases_eq, cases_lt}
 use Rattle.std.proofs.lemmas.List.{get_or-set_same, get_or-set_other, get_or_past, get_or-replicate, length-replicate}
 use Rattle.std.proofs.lemmas.Option.{slice_get-get_or}
@@ -14,7 +14,7 @@ use Rattle.heap_model.specs.declared.id.Value.TheVariants.{Number, Object}
 use Rattle.heap_model.specs.declared.reply.Reply.{Reply}
 use Rattle.heap_model.specs.declared.reply.Reply.TheVariants as replies
 use Rattle.heap_model.specs.Limits.{register_count, stamp_limit}
-use Rattle.heap_model.specs.graph.Changes.{with_graph_seat, with_register, with_cell, add, write, count_set, set_cell, set_stamp, leave}
+use Rattle.heap_model.specs.graph.Changes.{with_graph_seat, with_register, add, write, count_set, set_cell, set_stamp}
 use Rattle.heap_model.specs.graph.Graph.{Graph, GraphSeat, Node, fresh, unseen, unset}
 use Rattle.heap_model.specs.graph.Growth.{after_reply}
 use Rattle.heap_model.specs.graph.Legal.{Accepts}

@@ -1,5 +1,5 @@
 -- One more node is linked behind the end.
-use Rattle.std.proofs.Common.{◌≡◌, ◌≢◌, ℕ, suc, ◌+◌, ◌<◌, ◌≤◌, ◌⊎◌, inl, inr, Bool, cond, eqb, List, [], ◌∷◌, ◌++◌, refl, sym, ap, ◌∙◌, subst, arith}
+use Rattle.std.proofs.Common.{◌≡◌, ◌≢◌, ℕ, suc, ◌<◌, ◌≤◌, ◌⊎◌, inl, inr, Bool, cond, eqb, List, [], ◌∷◌, ◌++◌, refl, sym, ap, ◌∙◌, subst, arith}
 use Rattle.std.proofs.lemmas.Bool.{cases_lt}
 use Rattle.std.proofs.lemmas.Bool.Decides.{eqb_tells}
 use Rattle.heap_model.specs.declared.id.Id.{Id}
@@ -8,9 +8,9 @@ use Rattle.heap_model.specs.declared.id.Value.{Value}
 use Rattle.heap_model.specs.declared.id.Value.TheVariants.{Object}
 use Rattle.heap_queue.specs.Effects.{Places}
 use Rattle.heap_queue.specs.Laws.{IsStampOf}
-use Rattle.heap_queue.specs.Places.{Place, PutSwings}
+use Rattle.heap_queue.specs.Places.{PutSwings}
 use Rattle.heap_queue.proofs.Views.{View, same_value, Writes}
-use Rattle.heap_queue.proofs.Chains.{Chain, end, value_at, next_at, values_behind, IsNode, IsSwinging, Linked, HasOwn, HasValued, Matches, At, Stands}
+use Rattle.heap_queue.proofs.Chains.{Chain, end, value_at, next_at, values_behind, IsNode, IsSwinging, Linked, HasOwn, HasValued, Matches, Stands}
 use Rattle.heap_queue.proofs.Others.{Later}
 use Rattle.heap_queue.proofs.Moves.{Before, values_same, values_grow, node_stays, node_is_no_board, stand}
 

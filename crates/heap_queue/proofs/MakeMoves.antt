@@ -1,5 +1,5 @@
 -- What each entry comes to while the queue isn't made yet, and every entry.
-use Rattle.std.proofs.Common.{◌≡◌, ◌≢◌, ℕ, suc, ◌+◌, ◌<◌, ◌≤◌, inl, inr, List, [], ◌∷◌, refl, sym, ap, ◌∙◌, subst, arith}
+use Rattle.std.proofs.Common.{◌≡◌, ◌≢◌, ℕ, ◌<◌, ◌≤◌, inl, inr, List, [], refl, sym, ap, ◌∙◌, subst, arith}
 use Rattle.std.specs.Option.{IfSome}
 use Rattle.std.proofs.lemmas.Bool.{cases_eq}
 use Rattle.heap_model.specs.declared.command.Command.{Command}
@@ -15,7 +15,7 @@ use Rattle.heap_queue.specs.Effects.{Places, effects, Serves}
 use Rattle.heap_queue.specs.Places.{Place, MakesNode, SetsFirst, SetsLast, Waits, Rests, Gone, IsBetween, IsDue, after}
 use Rattle.heap_queue.proofs.Views.{View, same_value, OnlyRegisters, Reaches, IsBorn, made, full, Answers}
 use Rattle.heap_queue.proofs.Chains.{Chain, At, Stands}
-use Rattle.heap_queue.proofs.Moves.{IsSound, Outcome, Before, made_is_no_board}
+use Rattle.heap_queue.proofs.Moves.{IsSound, made_is_no_board}
 use Rattle.heap_queue.proofs.EveryMove.{comes}
 
 -- the first node, which no other seat has seen

@@ -1,15 +1,14 @@
 -- What the other seats rely on while one seat goes on, and that what they know stays true by it.
-use Rattle.std.proofs.Common.{◌≡◌, ◌≢◌, ℕ, suc, ◌+◌, ◌<◌, ◌≤◌, ◌⊎◌, inl, inr, sym, ap, ◌∙◌, subst, arith}
+use Rattle.std.proofs.Common.{◌≡◌, ◌≢◌, ℕ, suc, ◌<◌, ◌≤◌, ◌⊎◌, inl, inr, sym, ap, ◌∙◌, subst, arith}
 use Rattle.heap_model.specs.declared.graph.cell.Cell.{Cell}
 use Rattle.heap_model.specs.declared.id.Id.{Id}
 use Rattle.heap_model.specs.declared.id.Id.TheVariants.{Board, Made}
-use Rattle.heap_model.specs.declared.id.Value.{Value}
 use Rattle.heap_model.specs.declared.id.Value.TheVariants.{Object}
 use Rattle.heap_model.specs.graph.Graph.{unset}
 use Rattle.heap_queue.specs.Laws.{IsStampOf, IsForeign}
 use Rattle.heap_queue.specs.Places.{Place, MakesNode, SetsFirst, SetsLast, Waits, Rests, Gone, PutValue, PutLast, PutNext, PutHelps, PutLinks, PutSwings, TakeLast, TakeNext, TakeSame, TakeHelps, TakeValue, TakeUnlinks, TakeCopies}
 use Rattle.heap_queue.proofs.Views.{View, same_value}
-use Rattle.heap_queue.proofs.Chains.{Chain, end, value_at, next_at, HasOwn, HasValued, SawLast, SawFirst, HasNext, Matches, PutSaw, TakeSaw, At}
+use Rattle.heap_queue.proofs.Chains.{Chain, end, next_at, HasOwn, HasValued, SawLast, SawFirst, HasNext, Matches, PutSaw, TakeSaw, At}
 
 -- the object of this id is no node of the chain
 abbrev pub IsUnlinked : Chain → Id → Type 0

@@ -1,9 +1,8 @@
 -- What each heap call of a put comes to.
-use Rattle.std.proofs.Common.{◌≡◌, ◌≢◌, ℕ, suc, ◌+◌, ◌<◌, ◌≤◌, ◌⊎◌, inl, inr, List, [], ◌∷◌, ◌++◌, refl, sym, ap, ◌∙◌, subst, arith}
+use Rattle.std.proofs.Common.{◌≡◌, ◌≢◌, ℕ, suc, ◌<◌, ◌≤◌, ◌⊎◌, inl, inr, List, [], ◌∷◌, ◌++◌, refl, sym, ap, ◌∙◌, subst, arith}
 use Rattle.std.proofs.lemmas.Bool.{cases_eq}
 use Rattle.heap_model.specs.declared.command.Command.TheVariants.{New, Get, Set, Cas}
 use Rattle.heap_model.specs.declared.graph.cell.Cell.{Cell}
-use Rattle.heap_model.specs.declared.id.Id.{Id}
 use Rattle.heap_model.specs.declared.id.Id.TheVariants.{Board, Made}
 use Rattle.heap_model.specs.declared.id.Value.{Value}
 use Rattle.heap_model.specs.declared.id.Value.TheVariants.{Nil, Object}
@@ -14,7 +13,7 @@ use Rattle.heap_queue.specs.Effects.{Places}
 use Rattle.heap_queue.specs.Laws.{IsForeign}
 use Rattle.heap_queue.specs.Places.{Place, Rests, PutValue, PutLast, PutNext, PutHelps, PutLinks, PutSwings, IsFree, after}
 use Rattle.heap_queue.proofs.Views.{View, same_value, OnlyRegisters, Writes, Reaches, IsBorn, made, full, IsMissed, IsSwapped, Answers}
-use Rattle.heap_queue.proofs.Chains.{Chain, end, next_at, IsSwinging, Helper, HasOwn, HasValued, SawLast, HasNext, Matches, PutSaw, At, Stands}
+use Rattle.heap_queue.proofs.Chains.{Chain, end, next_at, IsSwinging, Helper, HasOwn, HasValued, SawLast, Matches, PutSaw, At, Stands}
 use Rattle.heap_queue.proofs.Others.{Later}
 use Rattle.heap_queue.proofs.Moves.{Outcome, Before, made_is_no_board, born_is_not_next, node_is_not_next, stand, linked_stays, stand_by_registers, quietly, is_no_helper, next_cases, last_foreign, swung}
 use Rattle.heap_queue.proofs.Linking.{node_linked}
@@ -128,17 +127,20 @@ module _ (seats s : ℕ) (old new : View) (place next : Places) (queue : List Va
         serves = refl;
         stands = stand seats s old new place next queue chain before (PutLast v) chain queue moves later
             (linked_stays seats s old new place next queue chain before later (board 0) (board 1) (writes.sizes Board) (λ j within. nodes j 1 within)
-            (is_no_helper seats s old new place next queue chain before PutValue stands (λ e. e))) (n, record {
-              own = record {
-                holds = same_value (writes.registers s 15) ∙ own.holds;
-                born = let e = writes.made s in let b = own.born in omega arith;
-                two = writes.sizes (Made s n) ∙ own.two;
-                alone = writes.other_cells (Made s n) 1 (omega arith) ∙ own.alone;
-                unlinked = own.unlinked;
-              };
-              free = free;
-              value = writes.here ∙ same_value (sym (writes.registers s v));
-            });
+            (is_no_helper seats s old new place next queue chain before PutValue stands (λ e. e))) (
+              n,
+              record {
+                own = record {
+                  holds = same_value (writes.registers s 15) ∙ own.holds;
+                  born = let e = writes.made s in let b = own.born in omega arith;
+                  two = writes.sizes (Made s n) ∙ own.two;
+                  alone = writes.other_cells (Made s n) 1 (omega arith) ∙ own.alone;
+                  unlinked = own.unlinked;
+                };
+                free = free;
+                value = writes.here ∙ same_value (sym (writes.registers s v));
+              },
+            );
         sound = tt;
       }
 
@@ -193,13 +195,16 @@ module _ (seats s : ℕ) (old new : View) (place next : Places) (queue : List Va
             subst (λ (x : Reply). Outcome seats s old new next queue (PutNext v) (Get 13 14 1) x) (sym is) record {
               now = queue;
               serves = refl;
-              stands = still_quietly (PutNext v) (PutLinks v) stands (λ e. e) (goes ∙ ap (after (PutNext v) (Get 13 14 1)) is) fills.only (record {
-                n = put.n;
-                valued = valued_kept old new chain s v put.n fills.only (fills.rest 15 (omega arith)) (fills.rest v (omega (arith, free.1))) put.valued;
-                i = put.i;
-                saw = saw_kept seats old new chain s 14 put.i fills.only (fills.rest 14 (omega arith)) put.saw;
-                matches = matches_kept old new s fills.only (fills.rest 14 (omega arith)) put.matches;
-              }, fills.here ∙ last.1);
+              stands = still_quietly (PutNext v) (PutLinks v) stands (λ e. e) (goes ∙ ap (after (PutNext v) (Get 13 14 1)) is) fills.only (
+                record {
+                  n = put.n;
+                  valued = valued_kept old new chain s v put.n fills.only (fills.rest 15 (omega arith)) (fills.rest v (omega (arith, free.1))) put.valued;
+                  i = put.i;
+                  saw = saw_kept seats old new chain s 14 put.i fills.only (fills.rest 14 (omega arith)) put.saw;
+                  matches = matches_kept old new s fills.only (fills.rest 14 (omega arith)) put.matches;
+                },
+                fills.here ∙ last.1,
+              );
               sound = tt;
             }
       ]

@@ -1,19 +1,17 @@
 -- What each heap call of a take comes to.
-use Rattle.std.proofs.Common.{◌≡◌, ◌≢◌, ℕ, zero, suc, ◌+◌, ◌<◌, ◌≤◌, ◌⊎◌, inl, inr, List, [], ◌∷◌, refl, sym, ap, ◌∙◌, subst, arith}
+use Rattle.std.proofs.Common.{◌≡◌, ◌≢◌, ℕ, zero, suc, ◌<◌, ◌≤◌, ◌⊎◌, inl, inr, List, [], ◌∷◌, refl, sym, ap, ◌∙◌, subst, arith}
 use Rattle.heap_model.specs.declared.command.Command.TheVariants.{Get, Cas, Copy, Same}
 use Rattle.heap_model.specs.declared.graph.cell.Cell.{Cell}
-use Rattle.heap_model.specs.declared.id.Id.{Id}
 use Rattle.heap_model.specs.declared.id.Id.TheVariants.{Board, Made}
 use Rattle.heap_model.specs.declared.id.Value.{Value}
 use Rattle.heap_model.specs.declared.id.Value.TheVariants.{Nil, Object}
 use Rattle.heap_model.specs.declared.reply.Reply.{Reply}
 use Rattle.heap_model.specs.declared.reply.Reply.TheVariants.{Got}
-use Rattle.heap_model.specs.graph.Graph.{unset}
-use Rattle.heap_queue.specs.Effects.{Places, Effect, Took, Empty, Serves}
+use Rattle.heap_queue.specs.Effects.{Places, Took, Empty, Serves}
 use Rattle.heap_queue.specs.Laws.{IsForeign}
-use Rattle.heap_queue.specs.Places.{Place, Rests, TakeLast, TakeNext, TakeSame, TakeHelps, TakeValue, TakeUnlinks, TakeCopies, IsFree, after}
+use Rattle.heap_queue.specs.Places.{Place, Rests, TakeLast, TakeNext, TakeSame, TakeHelps, TakeValue, TakeUnlinks, TakeCopies, after}
 use Rattle.heap_queue.proofs.Views.{View, same_value, OnlyRegisters, Writes, IsMissed, IsSwapped, IsCompared, yes, no, Answers}
-use Rattle.heap_queue.proofs.Chains.{Chain, end, value_at, next_at, values_behind, IsSwinging, SawLast, SawFirst, HasNext, TakeSaw, At, Stands}
+use Rattle.heap_queue.proofs.Chains.{Chain, end, value_at, next_at, values_behind, IsSwinging, SawFirst, HasNext, TakeSaw, At, Stands}
 use Rattle.heap_queue.proofs.Others.{Later}
 use Rattle.heap_queue.proofs.Moves.{Outcome, Before, values_same, node_stays, node_is_no_board, made_is_no_board, stand, quietly, is_no_helper, helper_stays, same_position, next_cases, swung}
 use Rattle.heap_queue.proofs.PutMoves.{saw_kept, saw_now, on_board, on_node}
@@ -142,13 +140,16 @@ module _ (seats s : ℕ) (old new : View) (place next : Places) (queue : List Va
       let unlike : i ≢ j = λ same. differs (saw.holds ∙ ap (λ (x : ℕ). Object (chain.node x)) same ∙ sym last.holds) in record {
         now = queue;
         serves = refl;
-        stands = take_quietly (TakeSame stamp) TakeValue stands (λ e. e) goes unchanged.only (i, record {
-          saw = first_kept seats old new chain s i unchanged.only (unchanged.registers 14) saw;
-          last = j;
-          before = omega arith;
-          passed = last.passed;
-          next = next_kept old new chain s 12 i (unchanged.registers 12) has;
-        });
+        stands = take_quietly (TakeSame stamp) TakeValue stands (λ e. e) goes unchanged.only (
+          i,
+          record {
+            saw = first_kept seats old new chain s i unchanged.only (unchanged.registers 14) saw;
+            last = j;
+            before = omega arith;
+            passed = last.passed;
+            next = next_kept old new chain s 12 i (unchanged.registers 12) has;
+          },
+        );
         sound = tt;
       }
 

@@ -1,10 +1,10 @@
 -- What the registers and cells of a graph hold, and how an entry of one seat changes that.
 use Rattle.std.proofs.Common.{◌≡◌, ◌≢◌, ℕ, suc, ◌<◌, ◌⊎◌, ap}
 use Rattle.heap_model.specs.declared.command.Command.{Command}
-use Rattle.heap_model.specs.declared.command.Command.TheVariants.{New, Array, Get, Set, Cas, Num, Nil as NilCommand, Copy, Same, Poll, Leave}
+use Rattle.heap_model.specs.declared.command.Command.TheVariants.{New, Array, Get, Set, Cas, Same}
 use Rattle.heap_model.specs.declared.graph.cell.Cell.{Cell}
 use Rattle.heap_model.specs.declared.id.Id.{Id}
-use Rattle.heap_model.specs.declared.id.Id.TheVariants.{Board, Made}
+use Rattle.heap_model.specs.declared.id.Id.TheVariants.{Made}
 use Rattle.heap_model.specs.declared.id.Value.{Value}
 use Rattle.heap_model.specs.declared.id.Value.TheVariants.{Object}
 use Rattle.heap_model.specs.declared.reply.Reply.{Reply}

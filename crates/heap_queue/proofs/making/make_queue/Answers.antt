@@ -1,5 +1,5 @@
 -- The making of the queue, reply by reply.
-use Rattle.std.proofs.Common.{◌≡◌, ap, refl, arith}
+use Rattle.std.proofs.Common.{ap, refl, arith}
 use Rattle.std.proofs.lemmas.Result.{err_from_is_err_and}
 use Rattle.heap_model.specs.declared.command.Command.TheVariants.{New, Set}
 use Rattle.heap_model.specs.declared.reply.Reply.TheVariants.{Full, Made}

@@ -1,5 +1,5 @@
 -- The last calls of a put.
-use Rattle.std.proofs.Common.{◌≡◌, ap, ◌∙◌, refl, Ok, arith}
+use Rattle.std.proofs.Common.{ap, ◌∙◌, refl, Ok, arith}
 use Rattle.heap_model.specs.declared.command.Command.TheVariants.{Cas}
 use Rattle.heap_model.specs.declared.reply.Reply.TheVariants.{Was, Now}
 use Rattle.heap_model.specs.calls.SeatReplies.{cas_reply}

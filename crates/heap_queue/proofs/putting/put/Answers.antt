@@ -1,5 +1,5 @@
 -- A put, reply by reply.
-use Rattle.std.proofs.Common.{◌≡◌, ap, ◌∙◌, inl, refl, Ok, arith}
+use Rattle.std.proofs.Common.{ap, ◌∙◌, inl, refl, Ok, arith}
 use Rattle.heap_model.specs.declared.command.Command.TheVariants.{New, Get, Set, Cas}
 use Rattle.heap_model.specs.declared.id.Value.{Value}
 use Rattle.heap_model.specs.declared.id.Value.TheVariants.{Nil, Number, Object}

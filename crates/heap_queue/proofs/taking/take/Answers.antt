@@ -1,5 +1,5 @@
 -- A take, reply by reply.
-use Rattle.std.proofs.Common.{◌≡◌, ap, ◌∙◌, inr, refl, Ok, arith}
+use Rattle.std.proofs.Common.{ap, ◌∙◌, inr, refl, Ok, arith}
 use Rattle.heap_model.specs.declared.command.Command.TheVariants.{Get}
 use Rattle.heap_model.specs.declared.id.Value.{Value}
 use Rattle.heap_model.specs.declared.id.Value.TheVariants.{Nil, Number, Object}

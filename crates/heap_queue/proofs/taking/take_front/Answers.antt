@@ -1,5 +1,5 @@
 -- The last calls of a take, reply by reply.
-use Rattle.std.proofs.Common.{◌≡◌, ap, ◌∙◌, refl, Ok, arith}
+use Rattle.std.proofs.Common.{ap, ◌∙◌, refl, Ok, arith}
 use Rattle.heap_model.specs.declared.command.Command.TheVariants.{Get, Cas, Copy, Same}
 use Rattle.heap_model.specs.declared.reply.Reply.TheVariants.{Got, Was, Now, Done, Yes, No}
 use Rattle.heap_model.specs.calls.SeatReplies.{get_reply, cas_reply, same_reply}
