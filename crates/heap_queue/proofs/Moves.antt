@@ -16,7 +16,7 @@ use Rattle.heap_queue.specs.Laws.{IsStampOf, IsForeign, FindsQueue, ShowsForeign
 use Rattle.heap_queue.specs.Places.{Place}
 use Rattle.heap_queue.proofs.Views.{View, same_value, OnlyRegisters, Writes}
 use Rattle.heap_queue.proofs.Chains.{Chain, end, value_at, next_at, values_behind, IsNode, IsSwinging, Helper, Linked, At, Stands}
-use Rattle.heap_queue.proofs.Others.{Later, Fits, at_stays}
+use Rattle.heap_queue.proofs.Others.{IsUnlinked, Later, Fits, at_stays}
 
 -- the call is of a seat that is there, finds the queue, and shows another seat's stamp where it is to be made again
 pub record IsSound (seats s : ℕ) (call : Call) : Type 0 where
@@ -95,6 +95,32 @@ later_by_registers s old new chain only = record {
   unlinked = λ t n other born unlinked. unlinked;
   field_0 = inl (only.cells Board 0);
   field_1 = inl (only.cells Board 1);
+}
+
+-- the nodes are the same, and the first and the last go on among them
+pub record KeepsNodes (before now : Chain) : Type 0 where
+  pub nodes : (j : ℕ) → now.node j ≡ before.node j
+  pub first : before.first ≤ now.first
+  pub last : before.last ≤ now.last
+  pub ends : end now ≡ end before
+
+-- an entry that writes a cell of an object which is no node, nor made by another seat
+pub later_by_write : (s i : ℕ) (value : Value) (id : Id) (old new : View) (before now : Chain) → Writes s id i value old new → IsUnlinked before id → ((t n : ℕ) → t ≢ s → Made t n ≢ id) → KeepsNodes before now
+    → (new.cell Board 0 ≡ old.cell Board 0) ⊎ IsStampOf s (new.cell Board 0).stamp → (new.cell Board 1 ≡ old.cell Board 1) ⊎ (((new.cell Board 1).value ≡ Object (now.node now.last)) × (before.last < now.last)) → Later s old new before now
+later_by_write s i value id old new before now writes unlinked others keeps field_0 field_1 = record {
+  registers = λ t r other. writes.registers t r;
+  made = λ t. let e = writes.made t in omega arith;
+  sizes = λ t n born. writes.sizes (Made t n);
+  nodes = λ j within. keeps.nodes j;
+  first = keeps.first;
+  last = keeps.last;
+  ends = let e = keeps.ends in omega arith;
+  value = λ j within. writes.other_objects (before.node j) 0 (unlinked j within);
+  next = λ j within. inl (writes.other_objects (before.node j) 1 (unlinked j within));
+  own = λ t n k other born away. writes.other_objects (Made t n) k (others t n other);
+  unlinked = λ t n other born away j within same. away j (let e = keeps.ends in omega arith) (sym (keeps.nodes j) ∙ same);
+  field_0 = field_0;
+  field_1 = field_1;
 }
 
 module _ (seats s : ℕ) (old new : View) (place next : Places) (queue : List Value) (chain : Chain) (before : Before seats s old place next queue chain) where
@@ -188,22 +214,10 @@ module _ (seats s : ℕ) (old new : View) (place next : Places) (queue : List Va
       let position : i ≡ chain.last = same_position (old.register s a).value (old.cell Board 1).value i chain.last holds before.linked.field_1 (sym (same_value same)) passed before.linked.last_within in
       let now : Chain = record chain { last = suc chain.last } in
       let field : (new.cell Board 1).value ≡ Object (chain.node (suc chain.last)) = writes.here ∙ next_holds ∙ ap (λ (j : ℕ). Object (chain.node (suc j))) position in
-      let nodes : (j k : ℕ) → j ≤ end chain → new.cell (chain.node j) k ≡ old.cell (chain.node j) k = λ j k below. writes.other_objects (chain.node j) k (node_is_no_board old (chain.node j) (before.linked.nodes j below)) in
-      let later : Later s old new chain now = record {
-        registers = λ t r other. writes.registers t r;
-        made = λ t. let e = writes.made t in omega arith;
-        sizes = λ t n born. writes.sizes (Made t n);
-        nodes = λ j below. refl;
-        first = omega arith;
-        last = omega arith;
-        ends = omega arith;
-        value = λ j below. nodes j 0 below;
-        next = λ j below. inl (nodes j 1 below);
-        own = λ t n k other born unlinked. writes.other_objects (Made t n) k (made_is_no_board t n);
-        unlinked = λ t n other born unlinked. unlinked;
-        field_0 = inl (writes.other_cells Board 0 (omega arith));
-        field_1 = inr (field, omega arith);
-      } in
+      let unlinked : IsUnlinked chain Board = λ j below. node_is_no_board old (chain.node j) (before.linked.nodes j below) in
+      let nodes : (j k : ℕ) → j ≤ end chain → new.cell (chain.node j) k ≡ old.cell (chain.node j) k = λ j k below. writes.other_objects (chain.node j) k (unlinked j below) in
+      let keeps : KeepsNodes chain now = record { nodes = λ j. refl; first = omega arith; last = omega arith; ends = refl } in
+      let later = later_by_write s 1 (old.register s v).value Board old new chain now writes unlinked (λ t n other. made_is_no_board t n) keeps (inl (writes.other_cells Board 0 (omega arith))) (inr (field, omega arith)) in
       let passed_first = before.linked.first_passed in let near = before.linked.last_near in
       stand q now queue goes later record {
         board = let b = before.linked.board in let e = writes.sizes Board in omega arith;

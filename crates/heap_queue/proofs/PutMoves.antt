@@ -15,7 +15,7 @@ use Rattle.heap_queue.specs.Places.{Place, Rests, PutValue, PutLast, PutNext, Pu
 use Rattle.heap_queue.proofs.Views.{View, same_value, OnlyRegisters, Writes, Reaches, IsBorn, made, full, IsMissed, IsSwapped, Answers}
 use Rattle.heap_queue.proofs.Chains.{Chain, end, next_at, IsSwinging, Helper, HasOwn, HasValued, SawLast, Matches, PutSaw, At, Stands}
 use Rattle.heap_queue.proofs.Others.{Later}
-use Rattle.heap_queue.proofs.Moves.{Outcome, Before, made_is_no_board, born_is_not_next, node_is_not_next, stand, linked_stays, stand_by_registers, quietly, is_no_helper, next_cases, last_foreign, swung}
+use Rattle.heap_queue.proofs.Moves.{Outcome, Before, KeepsNodes, later_by_write, made_is_no_board, born_is_not_next, node_is_not_next, stand, linked_stays, stand_by_registers, quietly, is_no_helper, next_cases, last_foreign, swung}
 use Rattle.heap_queue.proofs.Linking.{node_linked}
 
 -- what a seat knows stays true by an entry that changes others of its registers
@@ -107,21 +107,9 @@ module _ (seats s : ℕ) (old new : View) (place next : Places) (queue : List Va
       let moves : next s ≡ PutLast v = goes ∙ ap (after PutValue (Set 15 0 v)) is_set.is in
       let nodes : (j i : ℕ) → j ≤ end chain → new.cell (chain.node j) i ≡ old.cell (chain.node j) i = λ j i within. writes.other_objects (chain.node j) i (own.unlinked j within) in
       let board : (i : ℕ) → new.cell Board i ≡ old.cell Board i = λ i. writes.other_objects Board i (λ same. made_is_no_board s n (sym same)) in
-      let later : Later s old new chain chain = record {
-        registers = λ t r other. writes.registers t r;
-        made = λ t. let e = writes.made t in omega arith;
-        sizes = λ t m born. writes.sizes (Made t m);
-        nodes = λ j within. refl;
-        first = omega arith;
-        last = omega arith;
-        ends = omega arith;
-        value = λ j within. nodes j 0 within;
-        next = λ j within. inl (nodes j 1 within);
-        own = λ t m i other born unlinked. writes.other_objects (Made t m) i (λ same. let e : t ≡ s = cc in other e);
-        unlinked = λ t m other born unlinked. unlinked;
-        field_0 = inl (board 0);
-        field_1 = inl (board 1);
-      } in
+      let keeps : KeepsNodes chain chain = record { nodes = λ j. refl; first = omega arith; last = omega arith; ends = refl } in
+      let later =
+      later_by_write s 0 (old.register s v).value (Made s n) old new chain chain writes own.unlinked (λ t m other same. let e : t ≡ s = cc in other e) keeps (inl (board 0)) (inl (board 1)) in
       subst (λ (x : Reply). Outcome seats s old new next queue PutValue (Set 15 0 v) x) (sym is_set.is) record {
         now = queue;
         serves = refl;

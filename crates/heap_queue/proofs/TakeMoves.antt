@@ -2,7 +2,7 @@
 use Rattle.std.proofs.Common.{◌≡◌, ◌≢◌, ℕ, zero, suc, ◌<◌, ◌≤◌, ◌⊎◌, inl, inr, List, [], ◌∷◌, refl, sym, ap, ◌∙◌, subst, arith}
 use Rattle.heap_model.specs.declared.command.Command.TheVariants.{Get, Cas, Copy, Same}
 use Rattle.heap_model.specs.declared.graph.cell.Cell.{Cell}
-use Rattle.heap_model.specs.declared.id.Id.TheVariants.{Board, Made}
+use Rattle.heap_model.specs.declared.id.Id.TheVariants.{Board}
 use Rattle.heap_model.specs.declared.id.Value.{Value}
 use Rattle.heap_model.specs.declared.id.Value.TheVariants.{Nil, Object}
 use Rattle.heap_model.specs.declared.reply.Reply.{Reply}
@@ -12,8 +12,8 @@ use Rattle.heap_queue.specs.Laws.{IsForeign}
 use Rattle.heap_queue.specs.Places.{Place, Rests, TakeLast, TakeNext, TakeSame, TakeHelps, TakeValue, TakeUnlinks, TakeCopies, after}
 use Rattle.heap_queue.proofs.Views.{View, same_value, OnlyRegisters, Writes, IsMissed, IsSwapped, IsCompared, yes, no, Answers}
 use Rattle.heap_queue.proofs.Chains.{Chain, end, value_at, next_at, values_behind, IsSwinging, SawFirst, HasNext, TakeSaw, At, Stands}
-use Rattle.heap_queue.proofs.Others.{Later}
-use Rattle.heap_queue.proofs.Moves.{Outcome, Before, values_same, node_stays, node_is_no_board, made_is_no_board, stand, quietly, is_no_helper, helper_stays, same_position, next_cases, swung}
+use Rattle.heap_queue.proofs.Others.{IsUnlinked}
+use Rattle.heap_queue.proofs.Moves.{Outcome, Before, KeepsNodes, later_by_write, values_same, node_stays, node_is_no_board, made_is_no_board, stand, quietly, is_no_helper, helper_stays, same_position, next_cases, swung}
 use Rattle.heap_queue.proofs.PutMoves.{saw_kept, saw_now, on_board, on_node}
 
 first_kept : (seats : ℕ) (old new : View) (chain : Chain) (s i : ℕ) → OnlyRegisters s old new → new.register s 14 ≡ old.register s 14 → SawFirst seats old chain s i → SawFirst seats new chain s i
@@ -208,22 +208,10 @@ module _ (seats s : ℕ) (old new : View) (place next : Places) (queue : List Va
   unlinked i left stands goes take position queued writes =
       let passed = take.passed in let first = before.linked.first_passed in let w = before.linked.last_within in let near = before.linked.last_near in let order = take.before in
       let now : Chain = record { node = chain.node; first = suc chain.first; last = chain.last; queued = left } in
-      let nodes : (x y : ℕ) → x ≤ end chain → new.cell (chain.node x) y ≡ old.cell (chain.node x) y = λ x y within. writes.other_objects (chain.node x) y (node_is_no_board old (chain.node x) (before.linked.nodes x within)) in
-      let later : Later s old new chain now = record {
-        registers = λ t r other. writes.registers t r;
-        made = λ t. let e = writes.made t in omega arith;
-        sizes = λ t n born. writes.sizes (Made t n);
-        nodes = λ x within. refl;
-        first = omega arith;
-        last = omega arith;
-        ends = omega arith;
-        value = λ x within. nodes x 0 within;
-        next = λ x within. inl (nodes x 1 within);
-        own = λ t n x other born unlinked. writes.other_objects (Made t n) x (made_is_no_board t n);
-        unlinked = λ t n other born unlinked x within. unlinked x (omega arith);
-        field_0 = inr writes.stamp;
-        field_1 = inl (writes.other_cells Board 1 (omega arith));
-      } in
+      let apart : IsUnlinked chain Board = λ x within. node_is_no_board old (chain.node x) (before.linked.nodes x within) in
+      let nodes : (x y : ℕ) → x ≤ end chain → new.cell (chain.node x) y ≡ old.cell (chain.node x) y = λ x y within. writes.other_objects (chain.node x) y (apart x within) in
+      let keeps : KeepsNodes chain now = record { nodes = λ x. refl; first = omega arith; last = omega arith; ends = omega arith } in
+      let later = later_by_write s 0 (old.register s 12).value Board old new chain now writes apart (λ t n other. made_is_no_board t n) keeps (inr writes.stamp) (inl (writes.other_cells Board 1 (omega arith))) in
       let end_is : end now ≡ end chain = omega arith in
       stand seats s old new place next queue chain before TakeCopies now (values_behind (value_at old chain) (suc chain.first) left) goes later record {
         board = let b = before.linked.board in let e = writes.sizes Board in omega arith;
