@@ -12,3 +12,4 @@ pub mod PutMoves
 pub mod QueueLaws
 pub mod TakeMoves
 pub mod Views
+pub mod WholeCalls

@@ -13,7 +13,7 @@ use Rattle.heap_queue.specs.declared.replies.PutReply.{PutReply}
 use Rattle.heap_queue.specs.declared.replies.PutReply.TheVariants as puts
 use Rattle.heap_queue.specs.declared.replies.TakeReply.{TakeReply}
 use Rattle.heap_queue.specs.declared.replies.TakeReply.TheVariants as takes
-use Rattle.heap_queue.specs.Places.{Place, MakesNode, SetsLast, Rests, PutValue, PutLast, PutNext, PutHelps, PutLinks, PutSwings, TakeLast, TakeNext, TakeHelps, TakeValue, TakeUnlinks, TakeCopies, IsStep, after}
+use Rattle.heap_queue.specs.Places.{Place, MakesNode, SetsLast, Rests, Gone, PutValue, PutLast, PutNext, PutHelps, PutLinks, PutSwings, TakeLast, TakeNext, TakeHelps, TakeValue, TakeUnlinks, TakeCopies, IsStep, after}
 
 -- a making, put or take that is over, with its reply
 pub data Call : Type 0 where
@@ -76,6 +76,11 @@ IsWhole place [] call = ⊥
 IsWhole place (Said number command reply ∷ log) call =
     IsStep place command × (((ends place command reply ≡ Some call) × (log ≡ [])) ⊎ ((ends place command reply ≡ None) × IsWhole (after place command reply) log call))
 IsWhole place (entry ∷ log) call = IsWhole place log call
+
+-- where the seat stands when the call is over
+abbrev pub over : Call → Place
+over (MakeRefused need found) = Gone
+over call = Rests
 
 -- what a making comes to by its result
 abbrev pub make_call : Result Id Full → Call

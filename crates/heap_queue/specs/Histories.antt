@@ -15,6 +15,18 @@ IsQueueLog place [] = Unit {0}
 IsQueueLog place (Said number command reply ∷ log) = IsDue place command × IsQueueLog (after place command reply) log
 IsQueueLog place (entry ∷ log) = IsQueueLog place log
 
+-- where a seat stands after a log
+abbrev pub place_after : Place → List Entry → Place
+place_after place [] = place
+place_after place (Said number command reply ∷ log) = place_after (after place command reply) log
+place_after place (entry ∷ log) = place_after place log
+
+-- the log leads a seat from one place to another, and these calls end in it
+pub record Leads (place : Place) (log : List Entry) (last : Place) (calls : List Call) : Type 0 where
+  pub due : IsQueueLog place log
+  pub stands : place_after place log ≡ last
+  pub ended : calls_in place log ≡ calls
+
 -- the logs are those of seats of which this one makes the queue, and the others put and take once they have found it
 pub record AreQueueLogs (maker : ℕ) (log : ℕ → List Entry) : Type 0 where
   pub each : (number : ℕ) → IsQueueLog (start maker number) (log number)

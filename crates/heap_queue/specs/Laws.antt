@@ -1,5 +1,5 @@
 -- What is true of every history of a queue.
-use Rattle.std.specs.Prelude.{◌≡◌, ◌≢◌, ℕ, ◌<◌, ◌≤◌, List, [], ◌∷◌}
+use Rattle.std.specs.Prelude.{◌≡◌, ◌≢◌, ℕ, ◌<◌, ◌≤◌, List, [], ◌∷◌, ◌++◌}
 use Rattle.std.specs.Option.{IfSome}
 use Rattle.heap_model.specs.declared.entry.Entry.{Entry}
 use Rattle.heap_model.specs.declared.entry.Entry.TheVariants.{Said}
@@ -11,9 +11,10 @@ use Rattle.heap_model.specs.graph.Changes.{set_stamp}
 use Rattle.heap_model.specs.graph.Legal.{IsObjectLegal}
 use Rattle.heap_queue.specs.declared.replies.PutReply.TheVariants as puts
 use Rattle.heap_queue.specs.declared.replies.TakeReply.TheVariants as takes
-use Rattle.heap_queue.specs.Calls.{Call, PutCall, TakeCall, ends}
+use Rattle.heap_queue.specs.Calls.{Call, PutCall, TakeCall, ends, IsWhole, over}
 use Rattle.heap_queue.specs.Effects.{Places, start, moved, effects_of, AreQueueLegal}
-use Rattle.heap_queue.specs.Histories.{AreQueueLogs, IsQueueHistory}
+use Rattle.heap_queue.specs.Histories.{AreQueueLogs, IsQueueHistory, Leads}
+use Rattle.heap_queue.specs.Places.{Place}
 
 -- the stamp is that of a set of this seat
 abbrev pub IsStampOf : ℕ → ℕ → Type 0
@@ -70,3 +71,7 @@ EachIsDoneAlone = (heap : Heap) (maker : ℕ) (history : List Entry) → 2 ≤ b
 -- every legal order of the logs of a queue that keeps the order of each of them is the history of a queue
 abbrev pub OrdersAreHistories : Type 0
 OrdersAreHistories = (heap : Heap) (maker : ℕ) (log : ℕ → List Entry) (history : List Entry) → AreQueueLogs maker log → IsObjectLegal heap history → ((number : ℕ) → log_of number history ≡ log number) → IsQueueHistory heap maker history
+
+-- a log that leads to where a call begins, and then goes on by that call up to its end, leads on to where the seat rests, or to nothing more where it made no queue
+abbrev pub CallsLeadOn : Type 0
+CallsLeadOn = (place begins : Place) (log added : List Entry) (calls : List Call) (call : Call) → Leads place log begins calls → IsWhole begins added call → Leads place (log ++ added) (over call) (calls ++ call ∷ [])

@@ -1,4 +1,4 @@
-ghost use Rattle.heap_queue.specs.Laws.{EffectsAreLegal, EachFindsQueue, AgainsAreForeign, EachIsDoneAlone, OrdersAreHistories};
+ghost use Rattle.heap_queue.specs.Laws.{EffectsAreLegal, EachFindsQueue, AgainsAreForeign, EachIsDoneAlone, OrdersAreHistories, CallsLeadOn};
 
 /// The laws of the queue, over every history of it, however the calls of its seats are interleaved: what is taken is
 /// what was put, in its order, and the queue is found empty only where it is; no put or take fails to find it; each
@@ -10,7 +10,9 @@ pub fn law_queue()
     ensures alone { EachIsDoneAlone }
 {}
 
-/// That every legal order of a queue's logs is one of its histories: so the laws hold whatever the order was.
+/// That every legal order of a queue's logs is one of its histories, so the laws hold whatever the order was; and that
+/// a seat's log stays one of these logs as it goes on by one making, put or take after the other.
 pub fn law_orders()
-    ensures { OrdersAreHistories }
+    ensures orders { OrdersAreHistories }
+    ensures calls { CallsLeadOn }
 {}
