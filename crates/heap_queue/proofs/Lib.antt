@@ -1,0 +1,15 @@
+pub mod Chains
+pub mod EveryHistory
+pub mod EveryMove
+pub mod GraphViews
+pub mod HeapCalls
+pub mod Linking
+pub mod MakeMoves
+pub mod Moves
+pub mod Others
+pub mod PutCalls
+pub mod PutMoves
+pub mod QueueLaws
+pub mod TakeMoves
+pub mod Views
+pub mod WholeCalls

@@ -1,0 +1,6 @@
+pub mod Calls
+pub mod Effects
+pub mod Grows
+pub mod Histories
+pub mod Laws
+pub mod Places
