@@ -9,6 +9,7 @@ from .changes import changed_history, changed_script
 from .drawn import draw_script
 from .grown import grow_history
 from .known import KNOWN
+from .known_swaps import BOARDS, SWAPS
 from .limits import limit_cases
 from .made import MOST_START, make
 from .play import play
@@ -35,7 +36,7 @@ class Case(NamedTuple):
 def known_cases() -> list[Case]:
     checks = [Case("known history", ["check"], text.encode(),
                    done(b"legal %d\n" % entries) if bad is None else not_legal(NotLegal(bad)))
-              for text, bad, entries in KNOWN]
+              for text, bad, entries in (*KNOWN, *BOARDS, *SWAPS)]
     return checks + [Case("plan of a known history", ["plan"], text.encode()) for text, _, _ in KNOWN]
 
 
