@@ -1,8 +1,7 @@
 -- Whose the fragments are when a heap opens: the board's are its own, the others nobody's.
 use Rattle.std.specs.Int.{bit_at}
 use Rattle.std.proofs.Common.{◌≡◌, ℕ, ◌+◌, ◌-◌, ◌*◌, ◌^◌, ◌<◌, ◌≤◌, nat_lt, if◌then◌else◌, inl, inr, [], refl, sym, ap, ◌∙◌, subst, arith}
-use Rattle.std.proofs.lemmas.Bool.{cases_lt}
-use Rattle.std.proofs.lemmas.Bool.Decides.{nat_tests}
+use Rattle.std.proofs.lemmas.Bool.{cases_lt, lt-ltb, le-ltb}
 use Rattle.std.proofs.lemmas.List.FromFn.{get_or-range_with_len}
 use Rattle.std.proofs.lemmas.Nat.Bits.{bit_at_above, bit_at_ones, bit_at_ones_above, bit_at_cat_low, bit_at_cat_high}
 use Rattle.heap_model.specs.Board.{board_fragments}
@@ -18,10 +17,10 @@ abbrev pub opening_owner : Heap → ℕ → Owner
 opening_owner heap f = if nat_lt f (board_fragments heap) then Kept 0 f else Free
 
 boards : (heap : Heap) (f : ℕ) → f < board_fragments heap → opening_owner heap f ≡ Kept 0 f
-boards heap f below = grind (arith, nat_tests, below)
+boards heap f below = rw (lt-ltb f (board_fragments heap) below) refl
 
 pub beyond_board_is_free : (heap : Heap) (f : ℕ) → board_fragments heap ≤ f → opening_owner heap f ≡ Free
-beyond_board_is_free heap f past = grind (arith, nat_tests, past)
+beyond_board_is_free heap f past = rw (le-ltb f (board_fragments heap) past) refl
 
 pub opening_owner_cases : (heap : Heap) (P : Owner → Type 0) (f : ℕ) → (f < board_fragments heap → P (Kept 0 f)) → (board_fragments heap ≤ f → P Free) → P (opening_owner heap f)
 opening_owner_cases heap P f kept free = elim (cases_lt f (board_fragments heap)) [
