@@ -61,7 +61,7 @@ unfolding first_history_fault
 first_history_fault-none text history h =
     let value = h.value in
     let short : 3 + length (body history) ≤ too_many = omega (arith, value.short, length-map (body history) history_line) in
-    rw (h.spelled, form_of-form_line history.form, heap_of-heap_line history.heap value.heap)
+    rw (h.spelled, form_of-form_line history.form, heap_of-heap_line history.heap value.heap value.board)
     (lines_fault-none history.form history.heap.seats (first_stage history.form) 3 (body history) (omega arith) (lines_of-body history value)
     (follow-body history.form (length history.entries) history.mark history.entries history.end_used value.mark) short)
 
@@ -87,7 +87,7 @@ equal_texts_same_history text one other f g =
     let texts : map history_line (body one) ≡ map history_line (body other) = cc in
     let forms : ◌≡◌ {A = Option Form} (Some one.form) (Some other.form) = sym (form_of-form_line one.form) ∙ ap form_of form_lines ∙ form_of-form_line other.form in
     let form : one.form ≡ other.form = cc in
-    let heap : one.heap ≡ other.heap = equal_texts_same_heap one.heap other.heap f.value.heap g.value.heap heap_lines in
+    let heap : one.heap ≡ other.heap = equal_texts_same_heap one.heap other.heap f.value.heap f.value.board g.value.heap g.value.board heap_lines in
     let read : Form → Heap → List (List ℕ) → List HistoryLine = λ x y ls. values_in (map (line_of x y.seats) ls) in
     let bodies : body one ≡ body other =
     sym (decoded one f.value)

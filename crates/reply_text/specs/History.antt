@@ -50,6 +50,7 @@ MarkFits form count mark = ⊥
 -- the history has a text
 pub record IsSpellable (history : History) : Type 0 where
   pub heap : IsHeap history.heap
+  pub board : history.heap.board ≡ 32
   pub entries : AllByRecursion (IsWritten history.form history.heap.seats) history.entries
   pub mark : MarkFits history.form (length history.entries) history.mark
   pub end_used : history.end_used < 2 ^ 64

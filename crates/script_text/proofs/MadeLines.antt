@@ -47,6 +47,7 @@ IsOfForm-made form start seats count made within few e range =
     let counted : length made ≡ count = rw e (length-map-range_with_len (made_line start seats) 0 count) in
     record {
       heap = search (rules, within);
+      board = refl;
       lines = range;
       short = omega (arith, counted);
     }

@@ -1,5 +1,5 @@
 -- No fault is found in what is spelled.
-use Rattle.std.proofs.Common.{◌≡◌, ℕ, ◌<◌, ◌^◌, List, ◌∷◌, true, Some, None, Ok, nat_lt, nat_le, codes, decimal, refl, sym, subst, arith, rules}
+use Rattle.std.proofs.Common.{◌≡◌, ℕ, ◌<◌, ◌^◌, List, ◌∷◌, true, Option, Some, None, Ok, nat_lt, nat_le, codes, decimal, refl, sym, ap, subst, arith, rules}
 use Rattle.std.specs.Str.Parse.{AllDigits}
 use Rattle.std.proofs.lemmas.Fmt.{decimal_is_IsNumeral}
 use Rattle.heap_model.specs.declared.heap.Heap.{Heap}
@@ -74,8 +74,8 @@ words_fault-none Play seats (lines.Turns command) few h = rw number_of-c (turn_f
 words_fault-none Run seats (lines.Turns command) few h = absurd h
 
 -- the words of a heap line ask for the heap
-pub heap_of-words : (heap : Heap) → IsHeap heap → heap_of (codes "heap" ∷ heap_words heap) ≡ Some heap
-heap_of-words heap h =
+pub heap_of-words : (heap : Heap) → IsHeap heap → heap.board ≡ 32 → heap_of (codes "heap" ∷ heap_words heap) ≡ Some heap
+heap_of-words heap h board =
     let groups : number_of (decimal heap.groups) ≡ Some heap.groups = number_below-decimal (10 ^ 10) heap.groups (omega arith) (omega arith) in
     let spine : number_of (decimal heap.spine) ≡ Some heap.spine = number_below-decimal (10 ^ 10) heap.spine (omega arith) (omega arith) in
     let seats : number_of (decimal heap.seats) ≡ Some heap.seats = number_below-decimal (10 ^ 10) heap.seats (omega arith) (omega arith) in
@@ -84,4 +84,5 @@ heap_of-words heap h =
     let spine_fits : nat_le heap.spine most_spine ≡ true = search (rules, h.spine_fits) in
     let some_seat : nat_le 1 heap.seats ≡ true = search (rules, h.some_seat) in
     let seats_fit : nat_le heap.seats most_seats ≡ true = search (rules, h.seats_fit) in
-    rw (groups, spine, seats, some_group, groups_fit, spine_fits, some_seat, seats_fit) refl
+    let with_board : ℕ → Option Heap = λ n. Some (record { groups = heap.groups; spine = heap.spine; seats = heap.seats; board = n }) in
+    rw (groups, spine, seats, some_group, groups_fit, spine_fits, some_seat, seats_fit) (ap with_board (sym board))

@@ -46,12 +46,12 @@ lines-from_texts form seats (line ∷ lines) few h =
     rw (words_of-line_text form seats line few h.0, line_of-words form seats line few h.0, lines-from_texts form seats lines few h.1) refl
 
 -- the text of a heap line asks for the heap
-pub heap_of-heap_line : (heap : Heap) → IsHeap heap → heap_of (words_of (heap_line heap)) ≡ Some heap
-heap_of-heap_line heap h = rw (words_of-sentence (codes "heap") (heap_words heap) (heap_words-above heap h)) (heap_of-words heap h)
+pub heap_of-heap_line : (heap : Heap) → IsHeap heap → heap.board ≡ 32 → heap_of (words_of (heap_line heap)) ≡ Some heap
+heap_of-heap_line heap h board = rw (words_of-sentence (codes "heap") (heap_words heap) (heap_words-above heap h)) (heap_of-words heap h board)
 
-pub equal_texts_same_heap : (one other : Heap) → IsHeap one → IsHeap other → heap_line one ≡ heap_line other → one ≡ other
-equal_texts_same_heap one other f g e =
-    let asked : Some one ≡ Some other = sym (heap_of-heap_line one f) ∙ ap (λ line. heap_of (words_of line)) e ∙ heap_of-heap_line other g in
+pub equal_texts_same_heap : (one other : Heap) → IsHeap one → one.board ≡ 32 → IsHeap other → other.board ≡ 32 → heap_line one ≡ heap_line other → one ≡ other
+equal_texts_same_heap one other f a g b e =
+    let asked : Some one ≡ Some other = sym (heap_of-heap_line one f a) ∙ ap (λ line. heap_of (words_of line)) e ∙ heap_of-heap_line other g b in
     cc
 
 same_parts : (one other : Script) → one.heap ≡ other.heap → one.lines ≡ other.lines → one ≡ other
@@ -64,7 +64,7 @@ same_parts one other e f =
 pub first_fault-none : (form : Form) (text : List ℕ) (script : Script) → IsScript form text script → first_fault form text ≡ None
 unfolding first_fault
 first_fault-none form text script h =
-    rw (h.spelled, heap_of-heap_line script.heap h.heap) (lines_fault-none form script.heap.seats 3 script.lines (omega arith) h.lines (omega arith))
+    rw (h.spelled, heap_of-heap_line script.heap h.heap h.board) (lines_fault-none form script.heap.seats 3 script.lines (omega arith) h.lines (omega arith))
 
 -- two scripts of one text are one
 pub same_script : (form : Form) (text : List ℕ) (one other : Script) → IsScript form text one → IsScript form text other → one ≡ other
@@ -72,7 +72,7 @@ same_script form text one other f g =
     let spelled : script_lines one.heap one.lines ≡ script_lines other.heap other.lines = sym f.spelled ∙ g.spelled in
     let heap_lines : heap_line one.heap ≡ heap_line other.heap = cc in
     let texts : map line_text one.lines ≡ map line_text other.lines = cc in
-    same_parts one other (equal_texts_same_heap one.heap other.heap f.heap g.heap heap_lines)
+    same_parts one other (equal_texts_same_heap one.heap other.heap f.heap f.board g.heap g.board heap_lines)
     (sym (lines-from_texts form one.heap.seats one.lines (omega arith) f.lines)
     ∙ ap (map (λ text. line_of (words_of text))) texts
     ∙ lines-from_texts form other.heap.seats other.lines (omega arith) g.lines)
@@ -98,6 +98,7 @@ IsScript-text_of form script h =
     record {
       spelled = lines_of-text_of (script_lines script.heap script.lines) (head, (heap, lines));
       heap = h.heap;
+      board = h.board;
       lines = h.lines;
       short = h.short;
     }

@@ -41,5 +41,6 @@ most_lines = 65536
 pub record IsScript (form : Form) (text : List ℕ) (script : Script) : Type 0 where
   pub spelled : lines_of text ≡ script_lines script.heap script.lines
   pub heap : IsHeap script.heap
+  pub board : script.heap.board ≡ 32
   pub lines : AllByRecursion (IsLine form script.heap.seats) script.lines
   pub short : length script.lines + 2 ≤ most_lines

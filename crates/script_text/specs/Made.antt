@@ -69,7 +69,7 @@ made_line start seats i = lines.Seat (i % seats) (made_command seats i (state_be
 
 -- the heap of a made script
 abbrev pub made_heap : ℕ → Heap
-made_heap seats = record { groups = 64; spine = 256; seats = seats }
+made_heap seats = record { groups = 64; spine = 256; seats = seats; board = 32 }
 
 -- the script that is made from this start, for so many seats and of so many lines
 abbrev pub made_script : ℕ → ℕ → ℕ → Script

@@ -13,6 +13,7 @@ pub fn read_heap(line: &[u8]) -> Option<Heap>
     ensures value { result ≡ heap_of (words_of line.now) }
     ensures found { IfSome result (λ heap. line.now ≡ heap_line heap) }
     ensures range { IfSome result IsHeap }
+    ensures board { IfSome result (λ heap. heap.board ≡ 32) }
 {
     let mut words = Parts::words(line);
     let [Some(word), Some(groups), Some(spine), Some(seats), None] = [
@@ -47,5 +48,5 @@ fn heap_of_sizes(groups: u64, spine: u64, seats: u64) -> Option<Heap>
     ) else {
         return None;
     };
-    Heap::make(groups, spine, seats)
+    Heap::make(groups, spine, seats, 32)
 }

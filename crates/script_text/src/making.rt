@@ -145,6 +145,7 @@ pub fn make_script(alloc: Global, start: u32, seats: u8, lines: u32) -> Result<S
         groups: 64,
         spine: 256,
         seats,
+        board: 32,
     };
     Ok(Script { heap, lines: made })
 }

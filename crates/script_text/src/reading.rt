@@ -60,6 +60,7 @@ fn read_head(lines: &mut Parts<'_>) -> Result<Heap, LineFault>
     ensures found { IfOk result
         (λ heap. lines.old ≡ codes "schism 1" ∷ heap_line heap ∷ lines.new) }
     ensures range { IfOk result IsHeap }
+    ensures board { IfOk result (λ heap. heap.board ≡ 32) }
     ensures rest { (form : Form) → IfOk result
         (λ heap. header_fault form lines.old ≡ lines_fault form heap.seats 3 lines.new) }
     ensures fault { (form : Form) → IfErr result

@@ -100,6 +100,7 @@ fn read_head(lines: &mut Parts<'_>) -> Result<(Form, Heap), LineFault>
     ensures found { IfOk result
         (λ head. lines.old ≡ form_line head.0 ∷ heap_line head.1 ∷ lines.new) }
     ensures range { IfOk result (λ head. IsHeap head.1) }
+    ensures board { IfOk result (λ head. head.1.board ≡ 32) }
     ensures rest { IfOk result
         (λ head. history_header_fault lines.old ≡ history_lines_fault head.0 head.1.seats (first_stage head.0) 3 lines.new) }
     ensures fault { IfErr result (λ fault. history_header_fault lines.old ≡ Some fault) }
