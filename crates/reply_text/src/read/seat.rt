@@ -1,4 +1,5 @@
-ghost use Rattle.std.specs.Prelude.{◌≡◌, ◌<◌, ℕ, ◌∷◌, ◌++◌, decimal, IfOk};
+ghost use Rattle.std.specs.Prelude.{◌≡◌, ◌<◌, ◌∷◌, ◌++◌, decimal, IfOk};
+ghost use Rattle.script_text.specs.declared.preamble.Preamble.{Preamble as APreamble};
 ghost use Rattle.script_text.specs.declared.script.Form.{Form};
 ghost use Rattle.reply_text.specs.read.Tokens.{ReadsAs};
 ghost use Rattle.reply_text.specs.write.Entries.{entry_words};
@@ -11,12 +12,13 @@ use crate::read::tokens::{count, literal, next_word, number};
 use heap_model::Entry;
 use script_text::Parts;
 
-/// An entry of this seat, after its number.
-pub fn read_seat_entry(seat: u8, words: &mut Parts<'_>) -> Result<Entry, Misspelled>
+/// An entry of this seat, after its number, in a history of this version.
+pub fn read_seat_entry(seat: u8, words: &mut Parts<'_>, version: u8) -> Result<Entry, Misspelled>
     ensures found { IfOk result
         (λ entry. decimal seat ∷ words.old ≡ entry_words entry ++ words.new) }
-    ensures range { (form : Form) (seats : ℕ) → seat < seats → IfOk result (IsWritten form seats) }
-    ensures gives { ReadsAs result (seat_entry seat words.old) words.new }
+    ensures range { (form : Form) (preamble : APreamble) → preamble.version ≡ version →
+        seat < preamble.heap.seats → IfOk result (IsWritten form preamble) }
+    ensures gives { ReadsAs result (seat_entry version seat words.old) words.new }
 {
     let word = next_word(words)?;
     if word == b"takes".as_slice() {
@@ -32,7 +34,7 @@ pub fn read_seat_entry(seat: u8, words: &mut Parts<'_>) -> Result<Entry, Misspel
         let phase = number(words, u64::MAX)?;
         return Ok(Entry::Answers { seat, phase });
     }
-    let (command, reply) = read_said(word, words)?;
+    let (command, reply) = read_said(word, words, version)?;
     Ok(Entry::Said {
         seat,
         command,
