@@ -45,7 +45,7 @@ fn read_entry(
         return read_collector(words, form);
     }
     let seat = read_seat(word, preamble.heap.seats)?;
-    read_seat_entry(seat, words, preamble.version)
+    read_seat_entry(seat, words, preamble)
 }
 
 /// The space line, after its first word.

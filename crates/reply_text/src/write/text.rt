@@ -1,5 +1,6 @@
 ghost use Rattle.std.specs.Prelude.{◌≡◌, [], ◌∷◌, ◌++◌, map, OnOk, IfOk};
 ghost use Rattle.std.specs.List.{AllByRecursion};
+ghost use Rattle.script_text.specs.declared.script.Form.TheVariants.{Play, Run};
 ghost use Rattle.script_text.specs.Preamble.{usual_board};
 ghost use Rattle.script_text.specs.Text.{text_of};
 ghost use Rattle.reply_text.specs.declared.history_line.HistoryLine.TheVariants as lines;
@@ -13,15 +14,35 @@ use heap_model::{Entry, Memory};
 use script_text::{Form, push_heap_line, push_named};
 use std::alloc::Global;
 
+/// The first line of a play and its line feed.
+fn play_line(version: u8) -> &'static [u8]
+    ensures { result.now ≡ form_line version Play ++ 10 ∷ [] }
+{
+    if version == 2 {
+        b"history 2 play\n"
+    } else {
+        b"history 1 play\n"
+    }
+}
+
+/// The first line of a run and its line feed.
+fn run_line(version: u8) -> &'static [u8]
+    ensures { result.now ≡ form_line version Run ++ 10 ∷ [] }
+{
+    if version == 2 {
+        b"history 2 run\n"
+    } else {
+        b"history 1 run\n"
+    }
+}
+
 /// The first line and its line feed.
 fn form_line(version: u8, form: Form) -> &'static [u8]
     ensures { result.now ≡ form_line version form ++ 10 ∷ [] }
 {
     match form {
-        Form::Play if version == 2 => b"history 2 play\n",
-        Form::Play => b"history 1 play\n",
-        Form::Run if version == 2 => b"history 2 run\n",
-        Form::Run => b"history 1 run\n",
+        Form::Play => play_line(version),
+        Form::Run => run_line(version),
     }
 }
 
