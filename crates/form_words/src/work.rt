@@ -157,13 +157,13 @@ fn migrate_of(words: &[&str]) -> Option<Work>
     ensures some { IfSome result (λ work. (form_word work ≡ codes "migrate") × Completes (map (λ w. w.now) words.now) work) }
     ensures none { IfNone result ((kind : AKind) → ¬ Completes (map (λ w. w.now) words.now) (works.Migrate kind)) }
 {
-    let [word] = words else {
+    let Some((word, rest)) = words.split_first() else {
         return None;
     };
     let Some(kind) = TextKind::of(word) else {
         return None;
     };
-    Some(Work::Migrate(kind))
+    alone(Work::Migrate(kind), rest)
 }
 
 impl Work {
