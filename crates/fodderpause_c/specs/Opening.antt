@@ -1,0 +1,65 @@
+-- A heap is opened, as C has it.
+use Rattle.std.specs.Prelude.{◌≡◌, ◌≢◌, ℕ, List, map, replicate, length, All, Option, Some, None, Result, Ok, Err}
+use Rattle.std.specs.List.{range_with_len}
+use Rattle.std.specs.declared.alloc.Global.{Global}
+use Rattle.std.specs.declared.boxed.Box.{Box}
+use Rattle.heap_model.specs.Heap.{IsHeap}
+use Rattle.heap_model.specs.declared.heap.Heap.{Heap}
+use Rattle.heap_table.specs.CollectorHeld.{CollectorHeld}
+use Rattle.heap_table.specs.Known.{opening_known}
+use Rattle.heap_table.specs.Opened.{IsOpened}
+use Rattle.heap_table.specs.SeatHeld.{SeatHeld}
+use Rattle.fodderpause_c.specs.Codes.{answer_code}
+use Rattle.fodderpause_c.specs.declared.handle.Handle.{Handle}
+use Rattle.fodderpause_c.specs.declared.party.Party.{Party}
+use Rattle.fodderpause_c.specs.declared.party.Party.TheVariants.{OfSeat, OfCollector}
+use Rattle.fodderpause_c.specs.declared.refusal.Refusal.{Refusal}
+use Rattle.fodderpause_c.specs.declared.refusal.Refusal.TheVariants.{NoMemory, IsHeld, OutOfRange}
+
+-- the parties in these boxes
+abbrev pub boxed_in : List (Box Party Global) → List Party
+boxed_in boxes = map (λ (b : Box Party Global). b.value) boxes
+
+-- what is behind these handles
+abbrev pub behind : List Handle → List (Option Party)
+behind handles = map (λ (handle : Handle). handle.pointer.party) handles
+
+-- there is nothing behind any of them
+abbrev pub HasNone : List (Option Party) → Type 0
+HasNone parties = parties ≡ replicate (length parties) None
+
+-- the heap of these sizes
+abbrev pub heap_with : ℕ → ℕ → ℕ → Heap
+heap_with groups spine seats = record { groups = groups; spine = spine; seats = seats }
+
+-- it is the heap of these sizes, within the limits
+abbrev pub IsHeapOf : ℕ → ℕ → ℕ → Heap → Type 0
+IsHeapOf groups spine seats heap = (heap ≡ heap_with groups spine seats) × IsHeap heap
+
+-- a table of this heap has opened: its collector is behind the one handle, and its seats, in their order, behind the others
+pub record HasOpened (heap : Heap) (collector : Option Party) (seats : List (Option Party)) : Type 0 where
+  pub held : CollectorHeld
+  pub collector_is : collector ≡ Some (OfCollector held)
+  pub of_heap : held.heap ≡ heap
+  pub opening : held.known ≡ record (opening_known heap) { handed = heap.seats }
+  pub turns : held.turns ≡ 0
+  pub all : List SeatHeld
+  pub seats_are : seats ≡ map (λ (seat : SeatHeld). Some (OfSeat seat)) all
+  pub numbers : map (λ (seat : SeatHeld). seat.number) all ≡ range_with_len 0 heap.seats
+  pub each : All (IsOpened held.table heap) all
+
+-- the heap opens behind handles that had nothing; or they stay as they were, since there is no memory, or since one had a party
+abbrev pub Opens : Heap → Option Party → Option Party → List (Option Party) → List (Option Party) → Result (Unit {0}) Refusal → Type 0
+Opens heap old new seats then (Ok done) = (old ≡ None) × HasNone seats × HasOpened heap new then
+Opens heap old new seats then (Err NoMemory) = (old ≡ None) × HasNone seats × (new ≡ old) × (then ≡ seats)
+Opens heap old new seats then (Err IsHeld) = (¬ ((old ≡ None) × HasNone seats)) × (new ≡ old) × (then ≡ seats)
+Opens heap old new seats then (Err _) = ⊥
+
+-- so it is where the sizes are within the limits; else that is told, and the handles stay as they were
+abbrev pub OpensWithin : ℕ → ℕ → Option Party → Option Party → List (Option Party) → List (Option Party) → Result (Unit {0}) Refusal → Type 0
+OpensWithin groups spine old new seats then (Err OutOfRange) = (¬ IsHeap (heap_with groups spine (length seats))) × (new ≡ old) × (then ≡ seats)
+OpensWithin groups spine old new seats then answer = IsHeap (heap_with groups spine (length seats)) × Opens (heap_with groups spine (length seats)) old new seats then answer
+
+-- and C is told which
+abbrev pub OpensHeap : ℕ → ℕ → Option Party → Option Party → List (Option Party) → List (Option Party) → ℕ → Type 0
+OpensHeap groups spine old new seats then code = (answer : Result (Unit {0}) Refusal) × OpensWithin groups spine old new seats then answer × (code ≡ answer_code answer)
