@@ -1,11 +1,12 @@
 -- The inner calls of a collect, and how much is left to a seat.
-use Rattle.std.specs.Prelude.{◌≡◌, ℕ, ◌+◌, ◌-◌, ◌<◌, ◌≤◌, true, false, length, Option, Result, Ok, Err}
+use Rattle.std.specs.Prelude.{◌≡◌, ℕ, ◌+◌, ◌-◌, ◌<◌, ◌≤◌, ◌⊎◌, true, false, length, Option, Result, Ok, Err}
 use Rattle.heap_model.specs.Limits.{name_limit, stamp_limit}
 use Rattle.heap_model.specs.calls.SeatState.{own_graph_seat}
 use Rattle.heap_model.specs.declared.calls.collect.CollectReply.{CollectReply}
 use Rattle.heap_model.specs.declared.calls.collect.Inner.{Inner}
 use Rattle.heap_model.specs.declared.calls.collect.Inner.TheVariants as inners
 use Rattle.core_machine.specs.declared.step.Step.TheVariants.{PollLoad}
+use Rattle.core_machine.specs.machine.Machine.{MayBeginInner}
 use Rattle.core_machine.specs.seat.Looks.{MayMake}
 use Rattle.heap_table.specs.Made.{FoundIn}
 use Rattle.heap_table.specs.SeatHeld.{SeatHeld}
@@ -19,18 +20,28 @@ pub record MayMakeInner (held : SeatHeld) (inner : Inner) : Type 0 where
   pub ready : MayCollect (seat_state held)
   pub makes : MayMake held.heap held.number held.seat.looks inner
 
--- the inner call notes something
-abbrev pub IsNote : Inner → Type 0
-IsNote (inners.Note reply) = Unit {0}
-IsNote _ = ⊥
+-- why an inner call may not be begun, where that is so: a note tells what wasn't found, and another asks no other seat of the heap
+abbrev pub cause_of : Inner → Refusal
+cause_of (inners.Note reply) = causes.NotFound
+cause_of inners.Look = causes.OutOfRange
+cause_of inners.Answer = causes.OutOfRange
+cause_of (inners.Behind other) = causes.OutOfRange
+
+-- the seat has left, or has no room for what an inner call tells
+abbrev pub IsUnready : SeatHeld → Refusal → Type 0
+IsUnready held causes.HasLeft = (own_graph_seat (seat_state held)).left ≡ true
+IsUnready held causes.EntriesSpent = ((own_graph_seat (seat_state held)).left ≡ false) × (held.spare < 4)
+IsUnready held _ = ⊥
+
+-- the inner call may not be begun, though the seat is ready
+pub record IsBarred (held : SeatHeld) (inner : Inner) (refusal : Refusal) : Type 0 where
+  pub ready : MayCollect (seat_state held)
+  pub barred : ¬ MayBeginInner held.heap held.number held.seat inner
+  pub cause : refusal ≡ cause_of inner
 
 -- the seat may not make the inner call for this cause, the first that stands
 abbrev pub RefusesInner : SeatHeld → Inner → Refusal → Type 0
-RefusesInner held inner causes.HasLeft = (own_graph_seat (seat_state held)).left ≡ true
-RefusesInner held inner causes.EntriesSpent = ((own_graph_seat (seat_state held)).left ≡ false) × (held.spare < 4)
-RefusesInner held inner causes.NotFound = MayCollect (seat_state held) × IsNote inner × (¬ MayMake held.heap held.number held.seat.looks inner)
-RefusesInner held inner causes.OutOfRange = MayCollect (seat_state held) × (¬ IsNote inner) × (¬ MayMake held.heap held.number held.seat.looks inner)
-RefusesInner held inner _ = ⊥
+RefusesInner held inner refusal = IsUnready held refusal ⊎ IsBarred held inner refusal
 
 -- the seat makes the inner call, which it may, and so it answers; or it may not, and is as it was
 abbrev pub Makes : {A : Type 0} → Inner → (SeatHeld → SeatHeld → A → Type 0) → SeatHeld → SeatHeld → Result A Refusal → Type 0

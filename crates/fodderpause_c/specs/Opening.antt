@@ -1,6 +1,6 @@
 -- A heap is opened, as C has it.
-use Rattle.std.specs.Prelude.{◌≡◌, ◌≢◌, ℕ, List, map, replicate, length, All, Option, Some, None, Result, Ok, Err}
-use Rattle.std.specs.List.{range_with_len}
+use Rattle.std.specs.Prelude.{◌≡◌, ◌⊎◌, ℕ, Bool, true, false, not, List, map, length, All, Option, Some, is_some, Result, Ok, Err}
+use Rattle.std.specs.List.{range_with_len, list_all}
 use Rattle.std.specs.declared.alloc.Global.{Global}
 use Rattle.std.specs.declared.boxed.Box.{Box}
 use Rattle.heap_model.specs.Heap.{IsHeap}
@@ -25,8 +25,8 @@ abbrev pub behind : List Handle → List (Option Party)
 behind handles = map (λ (handle : Handle). handle.pointer.party) handles
 
 -- there is nothing behind any of them
-abbrev pub HasNone : List (Option Party) → Type 0
-HasNone parties = parties ≡ replicate (length parties) None
+abbrev pub are_bare : List Handle → Bool
+are_bare handles = list_all (λ (handle : Handle). not (is_some handle.pointer.party)) handles
 
 -- the heap of these sizes
 abbrev pub heap_with : ℕ → ℕ → ℕ → Heap
@@ -48,18 +48,25 @@ pub record HasOpened (heap : Heap) (collector : Option Party) (seats : List (Opt
   pub numbers : map (λ (seat : SeatHeld). seat.number) all ≡ range_with_len 0 heap.seats
   pub each : All (IsOpened held.table heap) all
 
+-- there is nothing behind the one handle, nor behind any of the others
+abbrev pub AllBare : Option Party → List Handle → Type 0
+AllBare collector seats = (is_some collector ≡ false) × (are_bare seats ≡ true)
+
+-- both stay as they were
+abbrev pub AllStay : Option Party → Option Party → List Handle → List Handle → Type 0
+AllStay old new seats then = (new ≡ old) × (then ≡ seats)
+
 -- the heap opens behind handles that had nothing; or they stay as they were, since there is no memory, or since one had a party
-abbrev pub Opens : Heap → Option Party → Option Party → List (Option Party) → List (Option Party) → Result (Unit {0}) Refusal → Type 0
-Opens heap old new seats then (Ok done) = (old ≡ None) × HasNone seats × HasOpened heap new then
-Opens heap old new seats then (Err NoMemory) = (old ≡ None) × HasNone seats × (new ≡ old) × (then ≡ seats)
-Opens heap old new seats then (Err IsHeld) = (¬ ((old ≡ None) × HasNone seats)) × (new ≡ old) × (then ≡ seats)
+abbrev pub Opens : Heap → Option Party → Option Party → List Handle → List Handle → Result (Unit {0}) Refusal → Type 0
+Opens heap old new seats then (Ok done) = AllBare old seats × HasOpened heap new (behind then)
+Opens heap old new seats then (Err NoMemory) = AllBare old seats × AllStay old new seats then
+Opens heap old new seats then (Err IsHeld) = (¬ AllBare old seats) × AllStay old new seats then
 Opens heap old new seats then (Err _) = ⊥
 
 -- so it is where the sizes are within the limits; else that is told, and the handles stay as they were
-abbrev pub OpensWithin : ℕ → ℕ → Option Party → Option Party → List (Option Party) → List (Option Party) → Result (Unit {0}) Refusal → Type 0
-OpensWithin groups spine old new seats then (Err OutOfRange) = (¬ IsHeap (heap_with groups spine (length seats))) × (new ≡ old) × (then ≡ seats)
-OpensWithin groups spine old new seats then answer = IsHeap (heap_with groups spine (length seats)) × Opens (heap_with groups spine (length seats)) old new seats then answer
+abbrev pub OpensWithin : Heap → Option Party → Option Party → List Handle → List Handle → Result (Unit {0}) Refusal → Type 0
+OpensWithin heap old new seats then answer = (IsHeap heap × Opens heap old new seats then answer) ⊎ ((¬ IsHeap heap) × (answer ≡ Err OutOfRange) × AllStay old new seats then)
 
 -- and C is told which
-abbrev pub OpensHeap : ℕ → ℕ → Option Party → Option Party → List (Option Party) → List (Option Party) → ℕ → Type 0
-OpensHeap groups spine old new seats then code = (answer : Result (Unit {0}) Refusal) × OpensWithin groups spine old new seats then answer × (code ≡ answer_code answer)
+abbrev pub OpensHeap : ℕ → ℕ → Option Party → Option Party → List Handle → List Handle → ℕ → Type 0
+OpensHeap groups spine old new seats then code = (answer : Result (Unit {0}) Refusal) × OpensWithin (heap_with groups spine (length seats)) old new seats then answer × (code ≡ answer_code answer)

@@ -1,4 +1,4 @@
-ghost use Rattle.std.specs.Prelude.{◌≡◌, ◌↔◌, Some, None, IsSome, IsTrue, MatchOption};
+ghost use Rattle.std.specs.Prelude.{◌≡◌, ◌↔◌, Some, None, IsSome, IsTrue, is_some, MatchOption};
 
 use crate::party::Party;
 use crate::pointer::PartyPointer;
@@ -17,7 +17,7 @@ pub struct Handle {
 impl Handle {
     /// Whether there is a party behind it.
     pub fn is_held(&self) -> bool
-        ensures { IsTrue result ↔ IsSome self.now.pointer.party }
+        ensures { result ≡ is_some self.now.pointer.party }
     {
         self.held
     }

@@ -1,7 +1,7 @@
-ghost use Rattle.std.specs.Prelude.{◌≡◌, ◌≤◌, true, MatchResult};
+ghost use Rattle.std.specs.Prelude.{◌≡◌, MatchResult};
 ghost use Rattle.mutator_seat.specs.InnerCalls.{MayCollect};
 ghost use Rattle.mutator_seat.specs.Resting.{seat_state};
-ghost use Rattle.fodderpause_c.specs.Inner.{RefusesInner, MayMakeInner};
+ghost use Rattle.fodderpause_c.specs.Inner.{cause_of, IsUnready, RefusesInner, MayMakeInner};
 
 use crate::party::HeapSeat;
 use crate::refusal::Refusal;
@@ -36,9 +36,19 @@ pub struct NamesWork;
 #[derive(Drop)]
 pub struct StampsWork;
 
-/// Whether the seat may make the inner call now.
-fn allowed(seat: &HeapSeat, inner: &Inner) -> Result<(), Refusal>
-    ensures { MatchResult result (λ _. MayMakeInner seat.now inner.now) (RefusesInner seat.now inner.now) }
+/// Why the inner call may not be begun, where that is so.
+fn cause_of(inner: &Inner) -> Refusal
+    ensures { result ≡ cause_of inner.now }
+{
+    match *inner {
+        Inner::Note(_) => Refusal::NotFound,
+        Inner::Look | Inner::Answer | Inner::Behind { .. } => Refusal::OutOfRange,
+    }
+}
+
+/// Whether the seat is there still, and has room for what an inner call tells.
+fn ready(seat: &HeapSeat) -> Result<(), Refusal>
+    ensures { MatchResult result (λ _. MayCollect (seat_state seat.now)) (IsUnready seat.now) }
 {
     if seat.left() {
         return Err(Refusal::HasLeft);
@@ -46,11 +56,16 @@ fn allowed(seat: &HeapSeat, inner: &Inner) -> Result<(), Refusal>
     if seat.spare() < 4 {
         return Err(Refusal::EntriesSpent);
     }
+    Ok(())
+}
+
+/// Whether the seat may make the inner call now.
+fn allowed(seat: &HeapSeat, inner: &Inner) -> Result<(), Refusal>
+    ensures { MatchResult result (λ _. MayMakeInner seat.now inner.now) (RefusesInner seat.now inner.now) }
+{
+    ready(seat)?;
     if !seat.may_make(inner) {
-        return Err(match *inner {
-            Inner::Note(_) => Refusal::NotFound,
-            _ => Refusal::OutOfRange,
-        });
+        return Err(cause_of(inner));
     }
     Ok(())
 }

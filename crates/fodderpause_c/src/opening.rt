@@ -1,9 +1,9 @@
-ghost use Rattle.std.specs.Prelude.{◌≡◌, ◌↔◌, Some, map, length, IsTrue, IfOk, MatchResult, All};
+ghost use Rattle.std.specs.Prelude.{◌≡◌, true, Some, map, length, IfOk, MatchResult, All};
 ghost use Rattle.heap_model.specs.Heap.{IsHeap};
 ghost use Rattle.mutator_seat.specs.Resting.{IsBetweenCalls};
 ghost use Rattle.fodderpause_c.specs.declared.party.Party.TheVariants.{OfSeat};
 ghost use Rattle.fodderpause_c.specs.declared.refusal.Refusal.TheVariants.{OutOfRange};
-ghost use Rattle.fodderpause_c.specs.Opening.{HasNone, boxed_in, behind, heap_with, IsHeapOf, Opens, OpensHeap};
+ghost use Rattle.fodderpause_c.specs.Opening.{are_bare, boxed_in, behind, heap_with, IsHeapOf, Opens, OpensHeap};
 
 use crate::codes::{answer_code, refusal_code};
 use crate::handle::Handle;
@@ -16,15 +16,10 @@ use mutator_seat::Seat;
 use std::alloc::Global;
 
 /// Whether there is nothing behind any of the handles.
-fn none_held(handles: &[Handle]) -> bool
-    ensures { IsTrue result ↔ HasNone (behind handles.now) }
+fn all_bare(handles: &[Handle]) -> bool
+    ensures { result ≡ are_bare handles.now }
 {
-    for handle in handles {
-        if handle.is_held() {
-            return false;
-        }
-    }
-    true
+    handles.iter().all(|handle| !handle.is_held())
 }
 
 /// A box for each of the seats of a table that opens.
@@ -44,7 +39,7 @@ fn boxed(alloc: Global, holders: Vec<Holder<LastLog>>) -> Result<Vec<Box<Party, 
 /// Puts each box behind its handle.
 fn put_all(handles: &mut [Handle], boxes: Vec<Box<Party, Global>>)
     requires each { length boxes.items ≡ length handles.old }
-    requires none { HasNone (behind handles.old) }
+    requires bare { are_bare handles.old ≡ true }
     ensures { behind handles.new ≡ map Some (boxed_in boxes.items) }
 {
     let mut boxes = boxes;
@@ -62,9 +57,9 @@ fn open(
 ) -> Result<(), Refusal>
     requires limits { IsHeap heap }
     requires each { length seats.old ≡ heap.seats }
-    ensures { Opens heap collector.old.pointer.party collector.new.pointer.party (behind seats.old) (behind seats.new) result }
+    ensures { Opens heap collector.old.pointer.party collector.new.pointer.party seats.old seats.new result }
 {
-    if collector.is_held() || !none_held(seats) {
+    if collector.is_held() || !all_bare(seats) {
         return Err(Refusal::IsHeld);
     }
     let Ok((holders, holder)) = HeapTable::make::<LastLog, CountedLog>(alloc, heap) else {
@@ -103,7 +98,7 @@ pub extern "C" fn fodderpause_make(
     collector: &mut Handle,
     seats: &mut [Handle],
 ) -> u32
-    ensures { OpensHeap groups spine collector.old.pointer.party collector.new.pointer.party (behind seats.old) (behind seats.new) result }
+    ensures { OpensHeap groups spine collector.old.pointer.party collector.new.pointer.party seats.old seats.new result }
 {
     match heap_of(groups, spine, seats.len()) {
         Ok(heap) => answer_code(open(alloc, heap, collector, seats)),
