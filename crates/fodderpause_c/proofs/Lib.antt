@@ -1,5 +1,5 @@
 pub mod Bools
 pub mod Boxes
 pub mod Filling
-pub mod Folding
+pub mod HasGone
 pub mod Opened

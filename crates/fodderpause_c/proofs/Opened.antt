@@ -1,9 +1,10 @@
 -- The seats of a table that opens are between two calls, and each has its box.
-use Rattle.std.proofs.Common.{◌≡◌, List, [], ◌∷◌, ◌++◌, map, All, arith, sym, ap, subst, ◌∙◌, append_assoc}
+use Rattle.std.proofs.Common.{◌≡◌, List, [], ◌∷◌, ◌++◌, length, map, All, arith, sym, ap, subst, ◌∙◌, append_assoc}
 use Rattle.std.specs.declared.alloc.Global.{Global}
 use Rattle.std.specs.declared.boxed.Box.{Box}
-use Rattle.std.proofs.lemmas.List.{map-append}
+use Rattle.std.proofs.lemmas.List.{length-map, map-append}
 use Rattle.std.proofs.lemmas.List.Elements.{All-nil, All-weaker}
+use Rattle.std.proofs.lemmas.List.FromFn.{length-range_with_len}
 use Rattle.atomic_table.specs.Seated.{TableId}
 use Rattle.heap_model.specs.calls.SeatLaws.{IsOwn}
 use Rattle.heap_model.specs.declared.heap.Heap.{Heap}
@@ -11,7 +12,7 @@ use Rattle.core_machine.specs.seat.Seat.{Seat}
 use Rattle.heap_table.specs.Opened.{IsOpened}
 use Rattle.heap_table.specs.SeatHeld.{SeatHeld}
 use Rattle.mutator_seat.specs.Resting.{IsBetweenCalls}
-use Rattle.fodderpause_c.specs.Opening.{boxed_in}
+use Rattle.fodderpause_c.specs.Opening.{OpensWith, boxed_in}
 use Rattle.fodderpause_c.specs.declared.party.Party.{Party}
 use Rattle.fodderpause_c.specs.declared.party.Party.TheVariants.{OfSeat}
 
@@ -43,3 +44,9 @@ is_boxing_after_next holders rest more held seat boxes now b is first between sa
       ∙ ap (λ (l : List SeatHeld). boxed_in boxes ++ map OfSeat l) (sym first)
       ∙ is.boxed_so;
 }
+
+-- there are as many boxes as the heap has seats
+pub has_box_each : (heap : Heap) (collector : Party) (boxes : List (Box Party Global)) → OpensWith heap collector (boxed_in boxes) → length boxes ≡ heap.seats
+has_box_each heap collector boxes made =
+    sym (length-map (λ (b : Box Party Global). b.value) boxes) ∙ ap length made.seats_are ∙ length-map OfSeat made.all
+    ∙ sym (length-map (λ (seat : SeatHeld). seat.number) made.all) ∙ ap length made.numbers ∙ length-range_with_len 0 heap.seats

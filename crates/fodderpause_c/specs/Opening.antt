@@ -36,17 +36,25 @@ heap_with groups spine seats = record { groups = groups; spine = spine; seats = 
 abbrev pub IsHeapOf : ℕ → ℕ → ℕ → Heap → Type 0
 IsHeapOf groups spine seats heap = (heap ≡ heap_with groups spine seats) × IsHeap heap
 
--- a table of this heap has opened: its collector is behind the one handle, and its seats, in their order, behind the others
-pub record HasOpened (heap : Heap) (collector : Option Party) (seats : List (Option Party)) : Type 0 where
+-- a table of this heap opens with this collector and these seats, in their order
+pub record OpensWith (heap : Heap) (collector : Party) (seats : List Party) : Type 0 where
   pub held : CollectorHeld
-  pub collector_is : collector ≡ Some (OfCollector held)
+  pub collector_is : collector ≡ OfCollector held
   pub of_heap : held.heap ≡ heap
   pub opening : held.known ≡ record (opening_known heap) { handed = heap.seats }
   pub turns : held.turns ≡ 0
   pub all : List SeatHeld
-  pub seats_are : seats ≡ map (λ (seat : SeatHeld). Some (OfSeat seat)) all
+  pub seats_are : seats ≡ map OfSeat all
   pub numbers : map (λ (seat : SeatHeld). seat.number) all ≡ range_with_len 0 heap.seats
   pub each : All (IsOpened held.table heap) all
+
+-- it has opened, and they are behind their handles
+pub record HasOpened (heap : Heap) (first : Option Party) (others : List (Option Party)) : Type 0 where
+  pub collector : Party
+  pub seats : List Party
+  pub opens : OpensWith heap collector seats
+  pub first_is : first ≡ Some collector
+  pub others_are : others ≡ map Some seats
 
 -- there is nothing behind the one handle, nor behind any of the others
 abbrev pub AllBare : Option Party → List Handle → Type 0

@@ -3,7 +3,7 @@ ghost use Rattle.heap_model.specs.Heap.{IsHeap};
 ghost use Rattle.mutator_seat.specs.Resting.{IsBetweenCalls};
 ghost use Rattle.fodderpause_c.specs.declared.party.Party.TheVariants.{OfSeat};
 ghost use Rattle.fodderpause_c.specs.declared.refusal.Refusal.TheVariants.{OutOfRange};
-ghost use Rattle.fodderpause_c.specs.Opening.{are_bare, boxed_in, behind, heap_with, IsHeapOf, Opens, OpensHeap};
+ghost use Rattle.fodderpause_c.specs.Opening.{are_bare, boxed_in, behind, heap_with, IsHeapOf, Opens, OpensHeap, OpensWith};
 
 use crate::codes::{answer_code, refusal_code};
 use crate::handle::Handle;
@@ -48,6 +48,24 @@ fn put_all(handles: &mut [Handle], boxes: Vec<Box<Party, Global>>)
     }
 }
 
+/// What a heap opens with: the box of its collector, and those of its seats, in their order.
+#[derive(Drop)]
+struct Opening {
+    collector: Box<Party, Global>,
+    seats: Vec<Box<Party, Global>>,
+}
+
+/// Makes these boxes.
+fn make_parties(alloc: Global, heap: Heap) -> Result<Opening, Memory>
+    requires { IsHeap heap }
+    ensures { IfOk result (λ made. OpensWith heap made.collector.value (boxed_in made.seats.items)) }
+{
+    let (holders, holder) = HeapTable::make::<LastLog, CountedLog>(alloc, heap)?;
+    let seats = boxed(alloc, holders)?;
+    let collector = Box::new(alloc, Party::OfCollector(holder)).map_err(|_| Memory)?;
+    Ok(Opening { collector, seats })
+}
+
 /// Opens a heap, and puts its collector and its seats behind these handles.
 fn open(
     alloc: Global,
@@ -62,17 +80,11 @@ fn open(
     if collector.is_held() || !all_bare(seats) {
         return Err(Refusal::IsHeld);
     }
-    let Ok((holders, holder)) = HeapTable::make::<LastLog, CountedLog>(alloc, heap) else {
+    let Ok(made) = make_parties(alloc, heap) else {
         return Err(Refusal::NoMemory);
     };
-    let Ok(boxes) = boxed(alloc, holders) else {
-        return Err(Refusal::NoMemory);
-    };
-    let Ok(party) = Box::new(alloc, Party::OfCollector(holder)) else {
-        return Err(Refusal::NoMemory);
-    };
-    collector.put(party);
-    put_all(seats, boxes);
+    collector.put(made.collector);
+    put_all(seats, made.seats);
     Ok(())
 }
 

@@ -1,4 +1,4 @@
-use Rattle.fodderpause_c.proofs.Folding.{folded_has_left}
+use Rattle.fodderpause_c.proofs.HasGone.{folded_has_left}
 use Rattle.fodderpause_c.proofs.folding.take_in.Goals as goal
 
 pub fold_in-requires-clause-left : goal.fold_in-requires-clause-left
