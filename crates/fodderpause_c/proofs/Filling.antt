@@ -1,20 +1,25 @@
 -- Boxes are put behind handles, the last first.
-use Rattle.std.proofs.Common.{◌≡◌, ℕ, suc, ◌+◌, ◌<◌, Bool, true, not, ◌&&◌, List, [], ◌∷◌, ◌++◌, map, length, replicate, set, Option, Some, None, is_some, refl, sym, ap, subst, ◌∙◌, arith, append_assoc}
+use Rattle.std.proofs.Common.{◌≡◌, ℕ, suc, ◌+◌, ◌<◌, Bool, true, not, ◌&&◌, List, [], ◌∷◌, ◌++◌, map, length, replicate, set, slice_index_or, Option, Some, None, is_some, refl, sym, ap, subst, ◌∙◌, arith, append_assoc}
 use Rattle.std.specs.declared.alloc.Global.{Global}
 use Rattle.std.specs.declared.boxed.Box.{Box}
 use Rattle.std.proofs.lemmas.List.{append-nil, length-append, length-map, length-replicate, map-set, replicate-append-replicate, set_at}
+use Rattle.std.proofs.Math.ListN.{get_or-map}
+use Rattle.std.proofs.Math.Seq.{get_or-append_seam}
 use Rattle.fodderpause_c.specs.Opening.{are_bare, behind, boxed_in}
 use Rattle.fodderpause_c.specs.declared.handle.Handle.{Handle}
 use Rattle.fodderpause_c.specs.declared.party.Party.{Party}
 
+-- where the first of some tests is that nothing is there, and all come out true, nothing is
+none_in_front : (party : Option Party) (others : Bool) → (not (is_some party) && others) ≡ true → (party ≡ None) × (others ≡ true)
+none_in_front None others bare = (refl, bare)
+none_in_front (Some party) others bare = absurd (cc bare)
+
 -- there is nothing behind bare handles
 pub bare_have_none : (handles : List Handle) → are_bare handles ≡ true → behind handles ≡ replicate (length handles) None
 bare_have_none [] bare = refl
-bare_have_none (handle ∷ handles) bare = by handle.pointer.party bare
-  where
-    by : (party : Option Party) → (not (is_some party) && are_bare handles) ≡ true → party ∷ behind handles ≡ replicate (length (handle ∷ handles)) None
-    by None bare = ap (λ (l : List (Option Party)). None ∷ l) (bare_have_none handles bare)
-    by (Some party) bare = absurd (cc bare)
+bare_have_none (handle ∷ handles) bare =
+    let front = none_in_front handle.pointer.party (are_bare handles) bare in
+    ap (λ (p : Option Party). p ∷ behind handles) front.0 ∙ ap (λ (l : List (Option Party)). None ∷ l) (bare_have_none handles front.1)
 
 -- of these boxes the last ones are behind the last handles, and these are left
 pub record IsFilling (initial boxes : List (Box Party Global)) (handles : List Handle) : Type 0 where
@@ -38,6 +43,16 @@ has_place initial boxes rest b handles last is =
     ∙ ap (λ n. replicate n None ++ map Some (boxed_in is.done)) (ap length last ∙ length-append rest (b ∷ []))
     ∙ ap (λ (l : List (Option Party)). l ++ map Some (boxed_in is.done)) (sym (replicate-append-replicate (length rest) 1 None))
     ∙ append_assoc (replicate (length rest) None) (None ∷ []) (map Some (boxed_in is.done))
+
+-- so there is nothing behind it
+pub place_is_bare : (initial boxes rest : List (Box Party Global)) (b : Box Party Global) (handles : List Handle) (d : Handle) (n : ℕ) → boxes ≡ rest ++ b ∷ [] → n ≡ length rest → IsFilling initial boxes handles
+    → (slice_index_or handles n d).pointer.party ≡ None
+place_is_bare initial boxes rest b handles d n last place is =
+    let ys = map Some (boxed_in is.done) in
+    sym (get_or-map (λ (handle : Handle). handle.pointer.party) handles n d)
+    ∙ ap (λ (l : List (Option Party)). slice_index_or l n d.pointer.party) (has_place initial boxes rest b handles last is)
+    ∙ ap (λ k. slice_index_or (replicate (length rest) None ++ None ∷ ys) k d.pointer.party) (place ∙ sym (length-replicate (length rest) None))
+    ∙ get_or-append_seam (replicate (length rest) None) None ys d.pointer.party
 
 -- it gets the box
 pub is_filling_after_next : (initial boxes rest : List (Box Party Global)) (b : Box Party Global) (handles now : List Handle) (put : Handle) → boxes ≡ rest ++ b ∷ [] → put.pointer.party ≡ Some b.value → now ≡ set handles (length rest) put

@@ -22,6 +22,16 @@ fn all_bare(handles: &[Handle]) -> bool
     handles.iter().all(|handle| !handle.is_held())
 }
 
+/// A box for the party.
+fn box_of(alloc: Global, party: Party) -> Result<Box<Party, Global>, Memory>
+    ensures { IfOk result (λ boxed. boxed.value ≡ party) }
+{
+    match Box::new(alloc, party) {
+        Ok(boxed) => Ok(boxed),
+        Err(_) => Err(Memory),
+    }
+}
+
 /// A box for each of the seats of a table that opens.
 fn boxed(alloc: Global, holders: Vec<Holder<LastLog>>) -> Result<Vec<Box<Party, Global>>, Memory>
     requires { All IsBetweenCalls holders.items }
@@ -29,8 +39,7 @@ fn boxed(alloc: Global, holders: Vec<Holder<LastLog>>) -> Result<Vec<Box<Party, 
 {
     let mut boxes = Vec::new(alloc);
     for holder in holders {
-        let seat = Party::OfSeat(Seat::make(holder));
-        let boxed = Box::new(alloc, seat).map_err(|_| Memory)?;
+        let boxed = box_of(alloc, Party::OfSeat(Seat::make(holder)))?;
         boxes.push(boxed)?;
     }
     Ok(boxes)
@@ -62,7 +71,7 @@ fn make_parties(alloc: Global, heap: Heap) -> Result<Opening, Memory>
 {
     let (holders, holder) = HeapTable::make::<LastLog, CountedLog>(alloc, heap)?;
     let seats = boxed(alloc, holders)?;
-    let collector = Box::new(alloc, Party::OfCollector(holder)).map_err(|_| Memory)?;
+    let collector = box_of(alloc, Party::OfCollector(holder))?;
     Ok(Opening { collector, seats })
 }
 
