@@ -48,5 +48,5 @@ is_boxing_after_next holders rest more held seat boxes now b is first same its p
 -- there are as many boxes as the heap has seats
 pub has_box_each : (heap : Heap) (collector : Party) (boxes : List (Box Party Global)) → OpensWith heap collector (boxed_in boxes) → length boxes ≡ heap.seats
 has_box_each heap collector boxes made =
-    sym (length-map (λ (b : Box Party Global). b.value) boxes) ∙ ap (λ (l : List Party). length l) made.seats_are ∙ length-map (λ (s : SeatHeld). OfSeat s) made.all
-    ∙ sym (length-map (λ (seat : SeatHeld). seat.number) made.all) ∙ ap (λ (l : List ℕ). length l) made.numbers ∙ length-range_with_len 0 heap.seats
+    sym (length-map boxes (λ (b : Box Party Global). b.value)) ∙ ap (λ (l : List Party). length l) made.seats_are ∙ length-map made.all (λ (s : SeatHeld). OfSeat s)
+    ∙ sym (length-map made.all (λ (seat : SeatHeld). seat.number)) ∙ ap (λ (l : List ℕ). length l) made.numbers ∙ length-range_with_len 0 heap.seats
