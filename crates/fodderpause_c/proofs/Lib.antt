@@ -3,3 +3,4 @@ pub mod Boxes
 pub mod Filling
 pub mod HasGone
 pub mod Opened
+pub mod Refused
