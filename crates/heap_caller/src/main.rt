@@ -30,7 +30,7 @@ fn run<R: Threads + Sync>(rt: &R, alloc: Global, heap: Heap) -> Result<Option<us
 }
 
 fn main(rt: HostRuntime) -> io::Result<()> {
-    let Some(heap) = Heap::make(8, 0, 2) else {
+    let Some(heap) = Heap::make(8, 0, 2, 32) else {
         return println!(rt; "the sizes are out of their limits");
     };
     match run(&rt, rt.alloc(), heap) {
