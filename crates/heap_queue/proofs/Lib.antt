@@ -6,6 +6,7 @@ pub mod HeapCalls
 pub mod Linking
 pub mod MakeMoves
 pub mod Moves
+pub mod OneHistory
 pub mod Others
 pub mod PutCalls
 pub mod PutMoves

@@ -1,5 +1,6 @@
 pub mod Calls
 pub mod Effects
+pub mod Example
 pub mod Grows
 pub mod Histories
 pub mod Laws

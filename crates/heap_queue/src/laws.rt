@@ -1,3 +1,4 @@
+ghost use Rattle.heap_queue.specs.Example.{HasHistory};
 ghost use Rattle.heap_queue.specs.Laws.{EffectsAreLegal, EachFindsQueue, AgainsAreForeign, EachIsDoneAlone, OrdersAreHistories, CallsLeadOn};
 
 /// The laws of the queue, over every history of it, however the calls of its seats are interleaved: what is taken is
@@ -15,4 +16,9 @@ pub fn law_queue()
 pub fn law_orders()
     ensures orders { OrdersAreHistories }
     ensures calls { CallsLeadOn }
+{}
+
+/// That there is a history of a queue, so that the laws speak of something.
+pub fn law_example()
+    ensures { HasHistory }
 {}

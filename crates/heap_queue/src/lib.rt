@@ -7,7 +7,7 @@ mod putting;
 mod replies;
 mod taking;
 
-pub use laws::{law_orders, law_queue};
+pub use laws::{law_example, law_orders, law_queue};
 pub use making::make_queue;
 pub use putting::put;
 pub use replies::{PutReply, TakeReply};
