@@ -102,7 +102,7 @@ module _ (g : Graph) (s : ℕ) (present : (graph_seat g s).left ≡ false) where
       let cells : cells_in (node now id) ≡ set (cells_in (node g id)) i cell = ap cells_in (sets.written object there) ∙ ap (λ (o : Option Node). set (cells_in o) i cell) (sym there) in
       let here : get_or (cells_in (node now id)) i unset ≡ cell = ap (λ (xs : List Cell). get_or xs i unset) cells ∙ get_or-set_same (cells_in (node g id)) i cell unset within in record {
         here = same_value here;
-        stamp = (by.0, by.1, ap (λ (c : Cell). c.stamp) here ∙ by.2);
+        stamp = (by.0, by.1, by.2, ap (λ (c : Cell). c.stamp) here ∙ by.3);
         other_cells = λ x k apart. elim (same_or_other x id) as (λ _. get_or (cells_in (node now x)) k unset ≡ get_or (cells_in (node g x)) k unset) [
           | inl same ↦ subst (λ (y : Id). get_or (cells_in (node now y)) k unset ≡ get_or (cells_in (node g y)) k unset) (sym same)
               (ap (λ (xs : List Cell). get_or xs k unset) cells ∙ get_or-set_other (cells_in (node g id)) i k cell unset apart)
@@ -142,7 +142,7 @@ module _ (g : Graph) (s : ℕ) (present : (graph_seat g s).left ≡ false) (size
       let cell : Cell = record { value = register_value g s v; stamp = set_stamp s ((graph_seat g s).sets + 1) } in
       let there = object_in (node g id) i reaches.within in
       subst (λ (value : Value). Writes s id i (register_value g s v) (view_of g) (view_of (write (count_set g s) value i cell))) (sym reaches.holds)
-      (written g s present id i cell (write (count_set g s) (Object id) i cell) (write_sets_cell g s id i cell there.0 present there.1) there.0 there.1 reaches.within ((graph_seat g s).sets + 1, stamps, refl))
+      (written g s present id i cell (write (count_set g s) (Object id) i cell) (write_sets_cell g s id i cell there.0 present there.1) there.0 there.1 reaches.within ((graph_seat g s).sets + 1, omega arith, stamps, refl))
 
   born : (d fields : ℕ) (reply : Reply) → d < length (graph_seat g s).registers → Makes g s reply → IsBorn s d fields (view_of g) (view_of (after_reply g s (New d fields) reply)) reply
   born d fields (replies.Made id) within makes = made id (bears g s present d fields within)

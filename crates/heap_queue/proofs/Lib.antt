@@ -3,6 +3,7 @@ pub mod EveryHistory
 pub mod EveryMove
 pub mod GraphViews
 pub mod HeapCalls
+pub mod Knowing
 pub mod Linking
 pub mod MakeMoves
 pub mod Moves

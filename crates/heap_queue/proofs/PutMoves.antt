@@ -13,37 +13,11 @@ use Rattle.heap_queue.specs.Effects.{Places}
 use Rattle.heap_queue.specs.Laws.{IsForeign}
 use Rattle.heap_queue.specs.Places.{Place, Rests, PutValue, PutLast, PutNext, PutHelps, PutLinks, PutSwings, IsFree, after}
 use Rattle.heap_queue.proofs.Views.{View, same_value, OnlyRegisters, Writes, Reaches, IsBorn, made, full, IsMissed, IsSwapped, Answers}
-use Rattle.heap_queue.proofs.Chains.{Chain, end, next_at, IsSwinging, Helper, HasOwn, HasValued, SawLast, Matches, PutSaw, At, Stands}
+use Rattle.heap_queue.proofs.Chains.{Chain, end, next_at, IsSwinging, Helper, SawLast, PutSaw, At, Stands}
 use Rattle.heap_queue.proofs.Others.{Later}
 use Rattle.heap_queue.proofs.Moves.{Outcome, Before, KeepsNodes, later_by_write, made_is_no_board, born_is_not_next, node_is_not_next, stand, linked_stays, stand_by_registers, quietly, is_no_helper, next_cases, last_foreign, swung}
 use Rattle.heap_queue.proofs.Linking.{node_linked}
-
--- what a seat knows stays true by an entry that changes others of its registers
-own_kept : (old new : View) (chain : Chain) (s n : ℕ) → OnlyRegisters s old new → new.register s 15 ≡ old.register s 15 → HasOwn old chain s n → HasOwn new chain s n
-own_kept old new chain s n only same own = record {
-  holds = same_value same ∙ own.holds;
-  born = let e = only.made s in let b = own.born in omega arith;
-  two = only.sizes (Made s n) ∙ own.two;
-  alone = only.cells (Made s n) 1 ∙ own.alone;
-  unlinked = own.unlinked;
-}
-
-valued_kept : (old new : View) (chain : Chain) (s v n : ℕ) → OnlyRegisters s old new → new.register s 15 ≡ old.register s 15 → new.register s v ≡ old.register s v → HasValued old chain s v n → HasValued new chain s v n
-valued_kept old new chain s v n only same value_same valued = record {
-  own = own_kept old new chain s n only same valued.own;
-  free = valued.free;
-  value = same_value (only.cells (Made s n) 0) ∙ valued.value ∙ same_value (sym value_same);
-}
-
-pub saw_kept : (seats : ℕ) (old new : View) (chain : Chain) (s r i : ℕ) → OnlyRegisters s old new → new.register s r ≡ old.register s r → SawLast seats old chain s r i → SawLast seats new chain s r i
-saw_kept seats old new chain s r i only same saw = record {
-  holds = same_value same ∙ saw.holds;
-  passed = saw.passed;
-  foreign = subst (λ (c : Cell). (c ≡ unset) ⊎ IsForeign seats s c.stamp) (sym (only.cells (chain.node i) 1)) saw.foreign;
-}
-
-matches_kept : (old new : View) (s : ℕ) → OnlyRegisters s old new → new.register s 14 ≡ old.register s 14 → Matches old s → Matches new s
-matches_kept old new s only same matches equal = only.cells Board 1 ∙ matches (same_value (sym (only.cells Board 1)) ∙ equal ∙ same_value same) ∙ sym same
+use Rattle.heap_queue.proofs.Knowing.{valued_kept, saw_kept, matches_kept}
 
 module _ (seats s : ℕ) (old new : View) (place next : Places) (queue : List Value) (chain : Chain) (before : Before seats s old place next queue chain) where
   still_quietly : (p q : Place) → place s ≡ p → ¬ IsSwinging p → next s ≡ q → OnlyRegisters s old new → At seats new chain s q → Stands seats next new queue

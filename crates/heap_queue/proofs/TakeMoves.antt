@@ -1,5 +1,5 @@
 -- What each heap call of a take comes to.
-use Rattle.std.proofs.Common.{◌≡◌, ◌≢◌, ℕ, zero, suc, ◌<◌, ◌≤◌, ◌⊎◌, inl, inr, List, [], ◌∷◌, refl, sym, ap, ◌∙◌, subst, arith}
+use Rattle.std.proofs.Common.{◌≡◌, ◌≢◌, ℕ, zero, suc, ◌<◌, ◌≤◌, inl, inr, List, [], ◌∷◌, refl, sym, ap, ◌∙◌, subst, arith}
 use Rattle.heap_model.specs.declared.command.Command.TheVariants.{Get, Cas, Copy, Same}
 use Rattle.heap_model.specs.declared.graph.cell.Cell.{Cell}
 use Rattle.heap_model.specs.declared.id.Id.TheVariants.{Board}
@@ -14,20 +14,8 @@ use Rattle.heap_queue.proofs.Views.{View, same_value, OnlyRegisters, Writes, IsM
 use Rattle.heap_queue.proofs.Chains.{Chain, end, value_at, next_at, values_behind, IsSwinging, SawFirst, HasNext, TakeSaw, At, Stands}
 use Rattle.heap_queue.proofs.Others.{IsUnlinked}
 use Rattle.heap_queue.proofs.Moves.{Outcome, Before, KeepsNodes, later_by_write, values_same, node_stays, node_is_no_board, made_is_no_board, stand, quietly, is_no_helper, helper_stays, same_position, next_cases, swung}
-use Rattle.heap_queue.proofs.PutMoves.{saw_kept, saw_now, on_board, on_node}
-
-first_kept : (seats : ℕ) (old new : View) (chain : Chain) (s i : ℕ) → OnlyRegisters s old new → new.register s 14 ≡ old.register s 14 → SawFirst seats old chain s i → SawFirst seats new chain s i
-first_kept seats old new chain s i only same saw = record {
-  holds = same_value same ∙ saw.holds;
-  passed = saw.passed;
-  foreign = elim saw.foreign as (λ _. (new.cell Board 0 ≡ new.register s 14) ⊎ IsForeign seats s (new.cell Board 0).stamp) [
-    | inl held ↦ inl (only.cells Board 0 ∙ held ∙ sym same)
-    | inr foreign ↦ inr (subst (λ (c : Cell). IsForeign seats s c.stamp) (sym (only.cells Board 0)) foreign)
-  ];
-}
-
-next_kept : (old new : View) (chain : Chain) (s r i : ℕ) → new.register s r ≡ old.register s r → HasNext old chain s r i → HasNext new chain s r i
-next_kept old new chain s r i same has = record { holds = same_value same ∙ has.holds; within = has.within }
+use Rattle.heap_queue.proofs.Knowing.{first_kept, saw_kept, next_kept}
+use Rattle.heap_queue.proofs.PutMoves.{saw_now, on_board, on_node}
 
 -- what a queue serves of which one knows what it holds
 empty_serves : (queue : List Value) → queue ≡ [] → Serves queue (Empty ∷ []) queue

@@ -18,7 +18,7 @@ use Rattle.heap_queue.specs.Places.{Place}
 
 -- the stamp is that of a set of this seat
 abbrev pub IsStampOf : ℕ → ℕ → Type 0
-IsStampOf number stamp = (n : ℕ) × (n < stamp_limit) × (stamp ≡ set_stamp number n)
+IsStampOf number stamp = (n : ℕ) × (0 < n) × (n < stamp_limit) × (stamp ≡ set_stamp number n)
 
 -- the stamp is that of a set of another one of so many seats
 abbrev pub IsForeign : ℕ → ℕ → ℕ → Type 0
