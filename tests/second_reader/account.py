@@ -4,7 +4,6 @@ from .entries import LEAVE, Did, Space, Told
 from .graph import Graph, fragments_of_array, fragments_of_record, words_of_spine
 from .script import COLLECTOR, Command, Heap
 
-BOARD_FRAGMENTS = 11
 MOST_OWN = 15
 
 
@@ -21,8 +20,8 @@ def spine_words_needed(command: Command) -> int:
 class Sums:
     """What is in use, which a run's end line shows as well."""
 
-    def __init__(self):
-        self.gained = BOARD_FRAGMENTS
+    def __init__(self, heap: Heap):
+        self.gained = fragments_of_record(heap.board)
         self.lost = 0
 
     def add(self, entry: Told | Did) -> None:
@@ -44,7 +43,7 @@ class Account:
     def __init__(self, heap: Heap, graph: Graph):
         self.heap = heap
         self.graph = graph
-        self.sums = Sums()
+        self.sums = Sums(heap)
         self.own = [0] * heap.seats
         self.answered = [0] * heap.seats
         self.phase = 0

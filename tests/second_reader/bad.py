@@ -45,7 +45,7 @@ def random_bytes(random: Random) -> bytes:
     """A byte string: of any bytes, or of those that scripts and histories have."""
     length = random.choice((0, 1, 2, random.randrange(40), random.randrange(400)))
     allowed = random.choice((bytes(range(256)), b"schimeap 0123456789\n", b"0 1\n"))
-    front = random.choice((b"", b"", b"schism 1\n", b"schism 1\nheap 1 0 1\n", b"history 1 play\nheap 1 0 1\n"))
+    front = random.choice((b"", b"", b"schism 1\n", b"schism 1\nheap 1 0 1\n", b"history 1 play\nheap 1 0 1\n", b"schism 2\nheap 1 0 1 1\n", b"history 2 run\nheap 1 0 1 1\n"))
     return front + bytes(random.choice(allowed) for _ in range(length))
 
 
@@ -133,7 +133,8 @@ def usages() -> list[tuple[list[str], bytes]]:
              "play --pace steady --brief", "play --press", "play --press --press", "run --press", "play --pace debt", "play --pace debt --pace steady", "run --pace debts", "play x", "play --locked", "check x", "run --brief", "run --patience 0",
              "run --patience 1000001", "run --locked --locked", "make 1 1", "make 1 1 1 1", "make 1 17 1",
              "make 2147483648 1 1", "make 2147483647 16 9", "make 0 1 0", "make 1 1 32769", "make 01 1 1",
-             "make 5 16 32768", "make 11111111111 1 1")
+             "make 5 16 32768", "make 11111111111 1 1", "migrate", "migrate scripts", "migrate script script", "migrate script", "migrate history",
+             "migrate --brief script")
     return [(form.split(" ") if form else [], script) for form in forms]
 
 

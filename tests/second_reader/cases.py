@@ -9,11 +9,12 @@ from .changes import changed_history, changed_script
 from .drawn import draw_script
 from .grown import grow_history
 from .known import KNOWN
+from .known_swaps import BOARDS, SWAPS
 from .limits import limit_cases
 from .made import MOST_START, make
 from .play import play
 from .script import Script
-from .texts import Answer, NotLegal, done, not_legal, text_of
+from .texts import DONE, Answer, NotLegal, done, not_legal, text_of
 from .worked import worked_plays
 
 Runs = Callable[[list[str], bytes], Answer]
@@ -35,7 +36,7 @@ class Case(NamedTuple):
 def known_cases() -> list[Case]:
     checks = [Case("known history", ["check"], text.encode(),
                    done(b"legal %d\n" % entries) if bad is None else not_legal(NotLegal(bad)))
-              for text, bad, entries in KNOWN]
+              for text, bad, entries in (*KNOWN, *BOARDS, *SWAPS)]
     return checks + [Case("plan of a known history", ["plan"], text.encode()) for text, _, _ in KNOWN]
 
 
@@ -141,8 +142,24 @@ def run_plan(random: Random, runs: Runs) -> Case:
     return Case("plan of a run", ["plan"], changed_history(random, text) if random.random() < 0.5 else text)
 
 
+def script_migration(random: Random, runs: Runs) -> Case:
+    text = text_of_script(draw_any_script(random, True))
+    return Case("migration of a script", ["migrate", "script"], changed_script(random, text) if random.random() < 0.6 else text)
+
+
+def history_migration(random: Random, runs: Runs) -> Case:
+    """The migration of a history, or what is said of the migrated one, which is what is said of it."""
+    text = changed_history(random, draw_history(random))
+    if random.random() < 0.5:
+        return Case("migration of a history", ["migrate", "history"], text)
+    answer = runs(["migrate", "history"], text)
+    legal = runs(["check"], text)
+    return Case("check of a migrated history", ["check"], answer.output, legal) if answer.status == DONE else Case("migration of a history", ["migrate", "history"], text)
+
+
 def bytes_of_any_kind(random: Random, runs: Runs) -> Case:
-    return Case("random bytes", [random.choice(("play", "check", "run", "plan"))], random_bytes(random))
+    words = random.choice((["play"], ["check"], ["run"], ["plan"], ["migrate", "script"], ["migrate", "history"]))
+    return Case("random bytes", words, random_bytes(random))
 
 
 # The kinds of drawn cases by the names that `--kind` takes, and how often each is drawn.
@@ -162,6 +179,8 @@ KINDS: dict[str, tuple[int, Callable[[Random, Runs], Case]]] = {
     "plan-changed": (4, changed_plan),
     "plan-grown": (5, grown_plan),
     "plan-run": (1, run_plan),
+    "script-migrated": (4, script_migration),
+    "history-migrated": (6, history_migration),
     "bytes": (1, bytes_of_any_kind),
 }
 

@@ -15,6 +15,7 @@ REPLY_FORMS = {
     "number": "number NUMBER at STAMP",
     "object": "object ID at STAMP",
     "was": "was STAMP",
+    "now": "now STAMP",
     "length": "LENGTH",
     "phase": "PHASE",
     "ok": "ok",
@@ -35,6 +36,7 @@ REPLIES_OF = {
     "array": ("made", "full", "spine"),
     "get": ("nil", "number", "object", "no object", "no field"),
     "set": ("was", "no object", "no field"),
+    "cas": ("was", "now", "no object", "no field"),
     "num": ("ok",),
     "nil": ("ok",),
     "copy": ("ok",),
@@ -121,13 +123,14 @@ class History(NamedTuple):
     played: bool
     heap: Heap
     body: list[Entry | Space | End]
+    version: int = 1
 
     def entries(self) -> list[Entry]:
         return [line for line in self.body if isinstance(line, (Told, Did))]
 
     def lines(self) -> list[str]:
-        first = "history 1 play" if self.played else "history 1 run"
-        return [first, self.heap.line(), *(line.line() for line in self.body)]
+        first = f"history {self.version} {'play' if self.played else 'run'}"
+        return [first, self.heap.line(self.version), *(line.line() for line in self.body)]
 
 
 def written(form: str, values: tuple) -> str:

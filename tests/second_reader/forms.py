@@ -1,11 +1,15 @@
 """The words after the program's name, and what the program answers to them and its input."""
 
+from .history import migrated as migrated_history
+from .history import read_history
 from .judge import check
 from .made import MOST_MADE, MOST_START, make
 from .plan import plan
 from .play import answer_play
 from .script import MOST_SEATS, SCRIPT_DIGITS, read_script
-from .texts import LONGEST_SCRIPT, Answer, Refused, done, number_of, refused, text_of, too_long, usage
+from .script import migrated as migrated_script
+from .texts import (LONGEST_SCRIPT, MOST_MIGRATED_HISTORY, MOST_MIGRATED_SCRIPT, Answer, Refused, done, number_of,
+                    refused, text_of, too_long, usage)
 
 MOST_PATIENCE = 1_000_000
 
@@ -38,6 +42,22 @@ def answer_make(words: list[str]) -> Answer:
     return done(text_of(make(*(int(word) for word in words)).lines()))
 
 
+def answer_migrate(words: list[str], text: bytes) -> Answer:
+    """The same text in version 2."""
+    if words == ["script"]:
+        most, read = MOST_MIGRATED_SCRIPT, lambda: migrated_script(read_script(text, True))
+    elif words == ["history"]:
+        most, read = MOST_MIGRATED_HISTORY, lambda: migrated_history(read_history(text))
+    else:
+        return usage()
+    if len(text) > most:
+        return too_long()
+    try:
+        return done(text_of(read().lines()))
+    except Refused as fault:
+        return refused(fault)
+
+
 def answer_run(text: bytes) -> Answer | None:
     if len(text) > LONGEST_SCRIPT:
         return too_long()
@@ -55,6 +75,8 @@ def answer_words(words: list[str], text: bytes) -> Answer | None:
         return check(text)
     if form == "plan" and not rest:
         return plan(text)
+    if form == "migrate":
+        return answer_migrate(rest, text)
     if form == "make":
         return answer_make(rest)
     if form == "play":

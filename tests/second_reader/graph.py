@@ -47,8 +47,10 @@ class Graph:
     """Takes replies in their order, each of which has to be the one that the graph gives."""
 
     def __init__(self, heap: Heap):
-        self.objects = {BOARD: Object(False, 32)}
+        self.objects = {BOARD: Object(False, heap.board)}
         self.registers = [[object_value(BOARD)] + [NIL] * 15 for _ in range(heap.seats)]
+        # Under which stamp each register's value was seen.
+        self.seen = [[UNSET] * 16 for _ in range(heap.seats)]
         self.made = [0] * heap.seats
         self.sets = [0] * heap.seats
         self.has_left = [False] * heap.seats
@@ -76,27 +78,34 @@ class Graph:
             return self.read_field(seat, *operands)
         if name == "set":
             return self.write_field(seat, *operands)
+        if name == "cas":
+            return self.swap_field(seat, *operands)
         if name == "len":
             found = self.held(seat, operands[0])
             return Reply("no object") if found is None else Reply("length", (len(found.cells),))
         if name == "same":
             return Reply("yes" if registers[operands[0]] == registers[operands[1]] else "no")
         if name == "num":
-            registers[operands[0]] = number_value(operands[1])
+            self.put(seat, operands[0], number_value(operands[1]))
         elif name == "nil":
-            registers[operands[0]] = NIL
+            self.put(seat, operands[0], NIL)
         elif name == "copy":
-            registers[operands[0]] = registers[operands[1]]
+            self.put(seat, operands[0], registers[operands[1]], self.seen[seat][operands[1]])
         elif name == LEAVE:
             self.registers[seat] = [NIL] * 16
+            self.seen[seat] = [UNSET] * 16
             self.has_left[seat] = True
         return Reply("ok")
+
+    def put(self, seat: int, register: int, value: Value, seen: str = UNSET) -> None:
+        self.registers[seat][register] = value
+        self.seen[seat][register] = seen
 
     def make(self, seat: int, is_array: bool, destination: int, length: int) -> Reply:
         name = f"{seat}.{self.made[seat]}"
         self.made[seat] += 1
         self.objects[name] = Object(is_array, length)
-        self.registers[seat][destination] = object_value(name)
+        self.put(seat, destination, object_value(name))
         return Reply("made", (name,))
 
     def read_field(self, seat: int, destination: int, register: int, index: int) -> Reply:
@@ -106,19 +115,25 @@ class Graph:
         if index >= len(found.cells):
             return Reply("no field")
         value, stamp = found.cells[index]
-        self.registers[seat][destination] = value
+        self.put(seat, destination, value, stamp)
         return Reply(value[0], (*value[1:], stamp))
 
-    def write_field(self, seat: int, register: int, index: int, source: int) -> Reply:
+    def write_field(self, seat: int, register: int, index: int, source: int, expected: int | None = None) -> Reply:
+        """Writes a field; where a register's cell is expected there, only if it is that cell."""
         found = self.held(seat, register)
         if found is None:
             return Reply("no object")
         if index >= len(found.cells):
             return Reply("no field")
-        before = found.cells[index][1]
+        before = found.cells[index]
+        if expected is not None and before != (self.registers[seat][expected], self.seen[seat][expected]):
+            return Reply("now", (before[1],))
         self.sets[seat] += 1
         found.cells[index] = (self.registers[seat][source], f"{seat}:{self.sets[seat]}")
-        return Reply("was", (before,))
+        return Reply("was", (before[1],))
+
+    def swap_field(self, seat: int, register: int, index: int, expected: int, source: int) -> Reply:
+        return self.write_field(seat, register, index, source, expected)
 
     def reached(self) -> set[str]:
         """The objects to which a path leads from a register."""

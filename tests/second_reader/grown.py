@@ -6,7 +6,7 @@ from .account import fragments_needed, spine_words_needed
 from .drawn import Drawer, draw_heap
 from .entries import LEAVE, Did, End, Entry, History, Reply, Space, Told
 from .judge import Judge
-from .script import COLLECTOR, Command, Heap
+from .script import COLLECTOR, VERSIONS, Command, Heap
 
 # How often an entry that isn't right is put at the end of what was right so far.
 WRONG_ENDS = 0.008
@@ -15,18 +15,19 @@ WRONG_ENDS = 0.008
 class Grower:
     """Proposes entries from what a judge knows of those before."""
 
-    def __init__(self, random: Random, heap: Heap, played: bool):
+    def __init__(self, random: Random, heap: Heap, played: bool, version: int):
         self.random = random
         self.heap = heap
         self.played = played
+        self.version = version
         self.body: list[Entry | Space | End] = []
-        self.drawer = Drawer(random, heap, played)
+        self.drawer = Drawer(random, heap, played, version)
         self.haste = random.choice((0, 0.2, 0.4, 0.6))
         self.judge = self.judge_again()
 
     def judge_again(self) -> Judge:
         """A judge that has taken the body so far."""
-        judge = Judge(History(self.played, self.heap, []))
+        judge = Judge(History(self.played, self.heap, [], self.version))
         for line in self.body:
             judge.accepts(line)
         return judge
@@ -60,7 +61,7 @@ class Grower:
         return self.told(seat)
 
     def told(self, seat: int) -> Told:
-        names = [name for name in self.drawer.weights if name not in ("turns", "cycle", "polls")]
+        names = [name for name in self.drawer.weights if name not in ("turns", "cycle", "polls", "pair")]
         name = LEAVE if self.random.random() < 0.02 else self.random.choice((*names, "new", "array"))
         command = self.drawer.command(seat, name)
         return Told(command, self.reply(seat, command))
@@ -159,9 +160,10 @@ class Grower:
         if self.played and not any(isinstance(line, Space) for line in self.body):
             self.body.append(self.space())
         self.body.append(End(max(self.near(self.in_use()), 0)))
-        return History(self.played, self.heap, self.body)
+        return History(self.played, self.heap, self.body, self.version)
 
 
 def grow_history(random: Random, most: int) -> History:
-    grower = Grower(random, draw_heap(random), random.random() < 0.8)
+    version = random.choice(VERSIONS)
+    grower = Grower(random, draw_heap(random, version), random.random() < 0.8, version)
     return grower.grow(random.randint(1, most))

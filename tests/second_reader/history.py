@@ -2,7 +2,7 @@
 
 from .entries import (BOARD, COLLECTOR_FORMS, END_FORM, LEAVE, REPLIES_OF, REPLY_FORMS, SEAT_FORMS, SPACE_FORM, UNSET,
                       Did, End, Entry, History, Reply, Space, Told)
-from .script import COLLECTOR, COLLECTOR_COMMANDS, SEAT_COMMANDS, Command, Heap, read_header
+from .script import COLLECTOR, COLLECTOR_COMMANDS, VERSIONS, Command, Heap, read_header, seat_commands
 from .texts import Refused, lines_of, number_of
 
 TOO_MANY_LINES = 4_000_000
@@ -117,10 +117,10 @@ def read_did(party: int | str, forms: dict, words: list[bytes]) -> Did | None:
     return None
 
 
-ENTRY_COMMANDS = {**SEAT_COMMANDS, LEAVE: ()}
+ENTRY_COMMANDS = {version: {**seat_commands(version), LEAVE: ()} for version in VERSIONS}
 
 
-def read_entry(words: list[bytes], heap: Heap, played: bool) -> Entry | None:
+def read_entry(words: list[bytes], heap: Heap, played: bool, version: int) -> Entry | None:
     if len(words) < 2:
         return None
     if words[0] == b"c":
@@ -129,7 +129,7 @@ def read_entry(words: list[bytes], heap: Heap, played: bool) -> Entry | None:
     seat = read_seat(words[0])
     if seat is None or seat >= heap.seats:
         return None
-    return read_told(seat, ENTRY_COMMANDS, words[1:]) or read_did(seat, SEAT_FORMS, words[1:])
+    return read_told(seat, ENTRY_COMMANDS[version], words[1:]) or read_did(seat, SEAT_FORMS, words[1:])
 
 
 def read_space(words: list[bytes]) -> Space | None:
@@ -142,7 +142,7 @@ def read_end(words: list[bytes]) -> End | None:
     return None if values is None else End(*values)
 
 
-def read_body(lines: list[bytes], heap: Heap, played: bool) -> list[Entry | Space | End]:
+def read_body(lines: list[bytes], heap: Heap, played: bool, version: int) -> list[Entry | Space | End]:
     """Reads the lines from the third on, up to the end line, which has to be the last."""
     body: list[Entry | Space | End] = []
     space_seen = False
@@ -157,7 +157,7 @@ def read_body(lines: list[bytes], heap: Heap, played: bool) -> list[Entry | Spac
         elif words[0] == b"end":
             read = read_end(words) if space_seen or not played else None
         else:
-            read = read_entry(words, heap, played)
+            read = read_entry(words, heap, played, version)
         if read is None:
             raise Refused(position, "BadEntry")
         if position >= TOO_MANY_LINES:
@@ -168,8 +168,14 @@ def read_body(lines: list[bytes], heap: Heap, played: bool) -> list[Entry | Spac
     return body
 
 
+def migrated(history: History) -> History:
+    """The same history in version 2."""
+    return history._replace(version=VERSIONS[-1])
+
+
 def read_history(text: bytes) -> History:
     lines = lines_of(text)
-    heap = read_header(lines, (b"history 1 play", b"history 1 run"))
-    played = lines[0] == b"history 1 play"
-    return History(played, heap, read_body(lines[2:], heap, played))
+    headers = {b"history %d %s" % (version, form): version for version in VERSIONS for form in (b"play", b"run")}
+    version, heap = read_header(lines, headers)
+    played = lines[0].endswith(b" play")
+    return History(played, heap, read_body(lines[2:], heap, played, version), version)

@@ -15,7 +15,7 @@ class Judge:
         self.played = history.played
         self.graph = Graph(history.heap)
         self.account = Account(history.heap, self.graph)
-        self.sums = self.account.sums if history.played else Sums()
+        self.sums = self.account.sums if history.played else Sums(history.heap)
 
     def accepts(self, line: Told | Did | Space | End) -> bool:
         if isinstance(line, Space):

@@ -41,17 +41,35 @@ SCRIPT_LIMITS = (
     ("c turns %d", 1_000_000),
 )
 
-HEAP_LIMITS = ("0 0 1", "4097 0 1", "1 16385 1", "1 0 0", "1 0 17", "1 0 1 1", "1 0", "01 0 1")
+# Those of version 2 alone.
+SWAP_HISTORY_LIMITS = (
+    ("0 cas 0 0 %d 0 = was -", 15),
+    ("0 cas 0 %d 0 0 = now 0:1", 4_096),
+    ("0 cas 0 0 0 0 = now %d:1", 15),
+    ("0 cas 0 0 0 0 = now 15:%d", 2**26 - 1),
+)
+SWAP_SCRIPT_LIMITS = (("0 cas %d 0 0 0", 15), ("0 cas 0 %d 0 0", 4_096), ("0 cas 0 0 %d 0", 15), ("0 cas 0 0 0 %d", 15))
+
+# Heap lines of version 1, and those of version 2: the last two are right in the other one.
+HEAP_LIMITS = ("0 0 1", "4097 0 1", "1 16385 1", "1 0 0", "1 0 17", "1 0 1 1", "1 0", "01 0 1", "1 0 1 32")
+BOARD_LIMITS = ("1 0 1 0", "1 0 1 1", "1 0 1 47", "1 0 1 48", "1 0 1 01", "1 0 1 1 1", "0 0 1 1", "1 0 1 x", "1 0 1 ", "1 0 1")
+
+# First lines that are none, and one of each that is.
+HEADERS = ("schism 3", "schism 0", "schism 2 ", "schism 02", "schism", "schism 2")
+HISTORY_HEADERS = ("history 2", "history 3 play", "history 2 plays", "history 0 run", "history 2 play", "history 2 run")
 
 # A stamp's count 0, an id without a count, a number with a leading zero, replies of other commands, other parties.
 BAD_ENTRIES = ("0 get 1 0 0 = nil at 0:0", "0 new 1 2 = 0.", "0 new 1 2 = 0.00", "0 len 0 = no field",
                "0 set 0 0 0 = ok", "0 collect = done", "c cycle = done", "c turns 1 = cycle 0", "0 same 0 0 = ok",
                "0 leave", "0 poll 0", "0 gives 1", "c answers 1", "0 phase 1", "0 new 1 2 = spine need 1 used 0",
-               "0 num 0 1 = ok", "= ok")
+               "0 num 0 1 = ok", "= ok", "0 cas 0 0 1 1 = was -")
+BAD_SWAPS = ("0 cas 0 0 1 1 = ok", "0 cas 0 0 1 = was -", "0 cas 0 0 1 1 1 = was -", "0 set 0 0 1 = now -", "0 cas 0 0 1 1 = now",
+             "0 cas 0 0 1 1 = nil at -", "0 get 1 0 0 = now -")
 
 # Lines with two faults each, of which the one named first in the table of causes is told.
 TWO_FAULTS = ("9 jump", "c jump x", "0 jump x", "0 new 16 x", "0 new x 48", "0 new 16", "0 new 16 48 1", "0 new 1 x 1",
-              "0 new x 1 1", "0 turns x", "c poll 1", "c turns 1000001 1", "c turns", "0", "")
+              "0 new x 1 1", "0 turns x", "c poll 1", "c turns 1000001 1", "c turns", "0", "",
+              "0 cas 0 0 1 16", "0 cas 0 0 x 16", "0 cas 16 x 0 0", "0 cas 0 0 1", "0 cas 0 0 1 1 1", "c cas 0 0 1 1", "0 cas 0 0 1 1")
 
 
 def limit_cases() -> list[tuple[list[str], bytes]]:
@@ -63,4 +81,18 @@ def limit_cases() -> list[tuple[list[str], bytes]]:
     cases += [(["play"], f"schism 1\nheap 1 0 1\n{line}\n") for line in TWO_FAULTS]
     cases += [(["check"], f"history 1 play\nheap 1 0 1\n{line}\n") for line in BAD_ENTRIES]
     cases += [(["check"], f"history 1 run\nheap 1 0 1\n{line}\n") for line in ("c turns 1 = done", "c cycle = cycle 0")]
-    return [(words, text.encode()) for words, text in cases]
+    return [(words, text.encode()) for words, text in cases + second_version_cases()]
+
+
+def second_version_cases() -> list[tuple[list[str], str]]:
+    """What version 2 has alone, and what it refuses as version 1 does."""
+    history, script = "history 2 play\nheap 4096 16384 3 47\n", "schism 2\nheap 4096 16384 3 47\n"
+    cases = [(["check"], f"{history}{line % most}\n{line % (most + 1)}\n") for line, most in HISTORY_LIMITS + SWAP_HISTORY_LIMITS]
+    cases += [(["play"], f"{script}{line % most}\n{line % (most + 1)}\n") for line, most in SCRIPT_LIMITS + SWAP_SCRIPT_LIMITS]
+    cases += [(words, f"{header}\nheap {heap}\n") for heap in BOARD_LIMITS
+              for words, header in ((["play"], "schism 2"), (["check"], "history 2 run"), (["migrate", "script"], "schism 2"))]
+    cases += [(words, f"{header}\nheap 1 0 1 1\n") for header in HEADERS for words in (["play"], ["run"], ["migrate", "script"])]
+    cases += [(words, f"{header}\nheap 1 0 1 1\nend used 1\n") for header in HISTORY_HEADERS for words in (["check"], ["plan"], ["migrate", "history"])]
+    cases += [(["play"], f"schism 2\nheap 1 0 1 32\n{line}\n") for line in TWO_FAULTS]
+    cases += [(["check"], f"history 2 play\nheap 1 0 1 32\n{line}\n") for line in BAD_ENTRIES + BAD_SWAPS]
+    return cases

@@ -2,9 +2,9 @@
 
 from typing import NamedTuple
 
-from .account import BOARD_FRAGMENTS, MOST_OWN, Sums, fragments_needed
+from .account import MOST_OWN, Sums, fragments_needed
 from .entries import Did, Entry, History, Told
-from .graph import Graph
+from .graph import Graph, fragments_of_record
 from .history import read_history
 from .judge import judged
 from .script import COLLECTOR, Heap
@@ -70,7 +70,7 @@ def cycle_plan(heap: Heap, before: list[Entry], end: Did, reach: int) -> Cycle:
     begin = max(position for position, entry in enumerate(before) if begins_cycle(entry))
     parts = [seat_part(before, begin, seat) for seat in range(heap.seats)]
     since = sum(part[1] for part in parts)
-    sums = Sums()
+    sums = Sums(heap)
     for entry in before:
         sums.add(entry)
     return Cycle(end.values[0], reach, since, reach + since + sum(part[0] for part in parts), sums.gained - sums.lost, end.values[1])
@@ -99,14 +99,14 @@ def plan_lines(history: History) -> list[str]:
     cycles = [cycle_plan(heap, entries[:position], entry, reached[entry.values[0]])
               for position, entry in enumerate(entries) if is_kind(entry, "ends")]
     told = [entry for entry in entries if isinstance(entry, Told)]
-    reach = max([BOARD_FRAGMENTS, *reached])
+    reach = max([fragments_of_record(heap.board), *reached])
     takes = max([*between_ends(entries), *(cycle.since for cycle in cycles)])
     need = max([0, *(fragments_needed(entry.command) for entry in told if entry.command.name in ("new", "array"))])
     groups = -(-(reach + 2 * takes + MOST_OWN * heap.seats + need) // GROUP)
     turns = 16 * heap.groups ** 2 + 294 * heap.groups + 7 * heap.seats + 8
     full = sum(entry.reply.kind == "full" for entry in told)
     totals = [f"most reach {reach} takes {takes} need {need}", f"groups {groups} turns {turns}", f"full {full}"]
-    return ["plan 1", heap.line(), *(cycle.line() for cycle in cycles), *totals]
+    return ["plan 1", heap.line(history.version), *(cycle.line() for cycle in cycles), *totals]
 
 
 def plan(text: bytes) -> Answer:

@@ -118,7 +118,7 @@ def play(script: Script, pace_name: str | None, pressed: bool = False) -> Histor
     for _ in range(machine.cycles_to_come()):
         machine.cycle()
     machine.body.append(End(machine.table.taken()))
-    return History(True, script.heap, machine.body)
+    return History(True, script.heap, machine.body, script.version)
 
 
 def brief(history: History) -> list[str]:
@@ -132,7 +132,7 @@ def brief(history: History) -> list[str]:
     space = next(line for line in history.body if isinstance(line, Space))
     return [
         "brief 1",
-        history.heap.line(),
+        history.heap.line(history.version),
         f"commands {len(replies)} refused {refusals}",
         f"made {replies.count('made')} cycles {kinds.count('ends')} freed {freed} swung {kinds.count('swings')}",
         space.line(),

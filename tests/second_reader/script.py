@@ -12,6 +12,11 @@ MOST_SPINE = 16_384
 MOST_SEATS = 16
 SCRIPT_DIGITS = 10
 
+# A text of version 1 has no number of the board, whose fields are so many there.
+USUAL_BOARD = 32
+MOST_BOARD = 47
+VERSIONS = (1, 2)
+
 DESTINATION = (1, 15)
 REGISTER = (0, 15)
 INDEX = (0, 4_096)
@@ -31,6 +36,12 @@ SEAT_COMMANDS = {
     "collect": (),
 }
 COLLECTOR_COMMANDS = {"turns": ((0, 1_000_000),), "cycle": ()}
+SWAP_COMMANDS = {"cas": (REGISTER, INDEX, REGISTER, REGISTER)}
+
+
+def seat_commands(version: int) -> dict:
+    """A seat's commands in a text of this version."""
+    return SEAT_COMMANDS if version == 1 else {**SEAT_COMMANDS, **SWAP_COMMANDS}
 
 
 class Heap(NamedTuple):
@@ -39,13 +50,15 @@ class Heap(NamedTuple):
     groups: int
     spine: int
     seats: int
+    board: int = USUAL_BOARD
 
     @property
     def fragments(self) -> int:
         return 16 * self.groups
 
-    def line(self) -> str:
-        return f"heap {self.groups} {self.spine} {self.seats}"
+    def line(self, version: int) -> str:
+        sizes = self if version > 1 else self[:3]
+        return " ".join(str(word) for word in ("heap", *sizes))
 
 
 class Command(NamedTuple):
@@ -62,32 +75,35 @@ class Command(NamedTuple):
 class Script(NamedTuple):
     heap: Heap
     commands: list[Command]
+    version: int = 1
 
     def lines(self) -> list[str]:
-        return ["schism 1", self.heap.line(), *(command.line() for command in self.commands)]
+        return [f"schism {self.version}", self.heap.line(self.version), *(command.line() for command in self.commands)]
 
 
-def read_heap(line: bytes) -> Heap | None:
-    """The heap of a heap line within the limits."""
+def read_heap(line: bytes, version: int) -> Heap | None:
+    """The heap of a heap line within the limits, in a text of this version."""
     words = line.split(b" ")
-    if len(words) != 4 or words[0] != b"heap":
+    limits = ((1, MOST_GROUPS), (0, MOST_SPINE), (1, MOST_SEATS), (1, MOST_BOARD))
+    if version == 1:
+        limits = limits[:3]
+    if len(words) != 1 + len(limits) or words[0] != b"heap":
         return None
-    groups, spine, seats = (number_of(word) for word in words[1:])
-    if groups is None or spine is None or seats is None:
+    sizes = [number_of(word) for word in words[1:]]
+    if any(size is None or not least <= size <= most for size, (least, most) in zip(sizes, limits)):
         return None
-    if not 1 <= groups <= MOST_GROUPS or spine > MOST_SPINE or not 1 <= seats <= MOST_SEATS:
-        return None
-    return Heap(groups, spine, seats)
+    return Heap(*sizes)
 
 
-def read_header(lines: list[bytes], headers: tuple[bytes, ...]) -> Heap:
-    """Reads lines 1 and 2: one of these headers, and the heap line."""
+def read_header(lines: list[bytes], headers: dict[bytes, int]) -> tuple[int, Heap]:
+    """Reads lines 1 and 2: one of these headers, which has the text's version, and the heap line."""
     if not lines or lines[0] not in headers:
         raise Refused(1, "NoHeader")
-    heap = read_heap(lines[1]) if len(lines) > 1 else None
+    version = headers[lines[0]]
+    heap = read_heap(lines[1], version) if len(lines) > 1 else None
     if heap is None:
         raise Refused(2, "BadHeap")
-    return heap
+    return version, heap
 
 
 def read_party(word: bytes, heap: Heap, played: bool) -> int | str | None:
@@ -97,7 +113,7 @@ def read_party(word: bytes, heap: Heap, played: bool) -> int | str | None:
     return seat if seat is not None and seat < heap.seats else None
 
 
-def read_command(position: int, line: bytes, heap: Heap, played: bool) -> Command:
+def read_command(position: int, line: bytes, heap: Heap, played: bool, version: int) -> Command:
     """Reads the line at this position of a script."""
     if position > MOST_LINES:
         raise Refused(position, "TooManyLines")
@@ -105,7 +121,7 @@ def read_command(position: int, line: bytes, heap: Heap, played: bool) -> Comman
     party = read_party(words[0], heap, played)
     if party is None:
         raise Refused(position, "NoSeat")
-    commands = COLLECTOR_COMMANDS if party == COLLECTOR else SEAT_COMMANDS
+    commands = COLLECTOR_COMMANDS if party == COLLECTOR else seat_commands(version)
     name = words[1].decode("latin-1") if len(words) > 1 else ""
     if name not in commands:
         raise Refused(position, "NoCommand")
@@ -125,6 +141,11 @@ def read_command(position: int, line: bytes, heap: Heap, played: bool) -> Comman
 def read_script(text: bytes, played: bool) -> Script:
     """Reads a script; one that is to be played may have lines for the collector."""
     lines = lines_of(text)
-    heap = read_header(lines, (b"schism 1",))
-    commands = [read_command(position, line, heap, played) for position, line in enumerate(lines[2:], 3)]
-    return Script(heap, commands)
+    version, heap = read_header(lines, {b"schism %d" % version: version for version in VERSIONS})
+    commands = [read_command(position, line, heap, played, version) for position, line in enumerate(lines[2:], 3)]
+    return Script(heap, commands, version)
+
+
+def migrated(script: Script) -> Script:
+    """The same script in version 2."""
+    return script._replace(version=VERSIONS[-1])

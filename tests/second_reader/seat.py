@@ -4,6 +4,7 @@ from collections.abc import Callable
 
 from .collector import id_of
 from .entries import LEAVE, Did, Reply
+from .graph import fragments_of_record
 from .table import (BORN, FIRST_ANSWER, FIXED, GRANTED, LEFT, MARKED, NIL, NUMBER, PHASE, REFERENCE, SCANNED, TAKEN,
                     Table, array_meta, cell, is_array_meta, kind_of, length_of, masks_of, stamp_of,
                     unstamped, value_of)
@@ -21,6 +22,8 @@ class Seat:
         self.table = table
         self.tell = tell
         self.registers = [cell(REFERENCE, 0)] + [cell(NIL, 0)] * 15
+        # Under which stamp each register's value was seen.
+        self.seen = [0] * 16
         self.reserve: list[int] = []
         self.cursor = number % table.heap.groups
         self.made = 0
@@ -31,23 +34,27 @@ class Seat:
 
     def call(self, name: str, operands: tuple[int, ...]) -> Reply:
         """Any call but `collect`, which needs the collector."""
-        calls = {"new": self.new, "array": self.array, "get": self.get, "set": self.set, "num": self.num,
+        calls = {"new": self.new, "array": self.array, "get": self.get, "set": self.set, "cas": self.cas, "num": self.num,
                  "nil": self.nil, "copy": self.copy, "same": self.same, "len": self.length, "poll": self.poll,
                  LEAVE: self.leave}
         return calls[name](*operands)
 
     # Commands that look at no word of an object.
 
+    def put(self, destination: int, word: int, seen: int = 0) -> None:
+        self.registers[destination] = word
+        self.seen[destination] = seen
+
     def num(self, destination: int, number: int) -> Reply:
-        self.registers[destination] = cell(NUMBER, number)
+        self.put(destination, cell(NUMBER, number))
         return Reply("ok")
 
     def nil(self, destination: int) -> Reply:
-        self.registers[destination] = cell(NIL, 0)
+        self.put(destination, cell(NIL, 0))
         return Reply("ok")
 
     def copy(self, destination: int, register: int) -> Reply:
-        self.registers[destination] = self.registers[register]
+        self.put(destination, self.registers[register], self.seen[register])
         return Reply("ok")
 
     def same(self, left: int, right: int) -> Reply:
@@ -92,11 +99,11 @@ class Seat:
         masks = (BORN, MARKED, SCANNED) if 2 <= self.answered() % 7 <= 5 else (BORN,)
         for group, bits in masks_of(fragments).items():
             self.table.set_bits(group, bits, *masks)
-        self.registers[destination] = cell(REFERENCE, fragments[0])
+        self.put(destination, cell(REFERENCE, fragments[0]))
         return Reply("made", (id_of(name),))
 
     def new(self, destination: int, fields: int) -> Reply:
-        need = 1 + -(-(fields - 2) // 3) if fields > 2 else 1
+        need = fragments_of_record(fields)
         fragments, found = self.gather(need)
         if not fragments:
             return Reply("full", (need, found))
@@ -154,7 +161,7 @@ class Seat:
         if place is None:
             return Reply("no field")
         word = self.table.words[place]
-        self.registers[destination] = unstamped(word)
+        self.put(destination, unstamped(word), stamp_of(word))
         stamp = stamp_text(stamp_of(word))
         if kind_of(word) == NIL:
             return Reply("nil", (stamp,))
@@ -163,16 +170,26 @@ class Seat:
         return Reply("object", (id_of(self.table.load(value_of(word), 1)), stamp))
 
     def set(self, register: int, index: int, source: int) -> Reply:
+        return self.write(register, index, source, None)
+
+    def cas(self, register: int, index: int, expected: int, source: int) -> Reply:
+        return self.write(register, index, source, expected)
+
+    def write(self, register: int, index: int, source: int, expected: int | None) -> Reply:
+        """Writes a field; where a register's cell is expected there, only if it is that cell."""
         head = self.head(register)
         if head is None:
             return Reply("no object")
         place = self.place(head, index)
         if place is None:
             return Reply("no field")
-        if 1 <= self.answered() % 7 <= 5:
-            self.shade(self.table.words[place])
-            self.shade(self.registers[source])
         before = self.table.words[place]
+        wanted = before if expected is None else self.registers[expected] | self.seen[expected]
+        if 1 <= self.answered() % 7 <= 5:
+            self.shade(wanted)
+            self.shade(self.registers[source])
+        if before != wanted:
+            return Reply("now", (stamp_text(stamp_of(before)),))
         self.sets += 1
         self.table.words[place] = self.registers[source] | (self.number + 1) * STAMP_UNIT + self.sets
         return Reply("was", (stamp_text(stamp_of(before)),))
@@ -211,5 +228,6 @@ class Seat:
         self.give_back(self.reserve)
         self.reserve = []
         self.registers = [cell(NIL, 0)] * 16
+        self.seen = [0] * 16
         self.table.words[FIRST_ANSWER + self.number] = LEFT
         return Reply("ok")

@@ -1,5 +1,6 @@
 """A heap's table of words of 64 bits, and the steps on it."""
 
+from .graph import fragments_of_record
 from .script import Heap
 
 NIL, NUMBER, REFERENCE, FIXED = range(4)
@@ -17,9 +18,6 @@ FIRST_CONTROL = 19
 # The masks of a control word, by their lowest bit.
 TAKEN, BORN, MARKED, SCANNED = 0, 16, 32, 48
 ALL = 0xFFFF
-
-BOARD_FIELDS = 32
-BOARD_FRAGMENTS = 11
 
 
 def cell(kind: int, value: int, stamp: int = 0) -> int:
@@ -93,8 +91,9 @@ class Table:
         for seat in range(heap.seats, SEAT_WORDS):
             self.words[FIRST_ANSWER + seat] = LEFT
         self.words[SPOT] = cell(FIXED, 0, 0)
-        self.set_bits(0, 2**BOARD_FRAGMENTS - 1, TAKEN, BORN)
-        self.write_record(list(range(BOARD_FRAGMENTS)), BOARD_FIELDS, cell(FIXED, 0, 0))
+        board = list(range(fragments_of_record(heap.board)))
+        self.set_bits(0, 2 ** len(board) - 1, TAKEN, BORN)
+        self.write_record(board, heap.board, cell(FIXED, 0, 0))
 
     # Control words.
 

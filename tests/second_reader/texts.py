@@ -6,6 +6,9 @@ DONE, REFUSED, USAGE, TOO_LONG, NOT_LEGAL = 0, 1, 2, 6, 7
 
 LONGEST_SCRIPT = 1_048_576
 LONGEST_HISTORY = 16_777_216
+# What migrates is shorter by as much as it may grow.
+MOST_MIGRATED_SCRIPT = 1_048_572
+MOST_MIGRATED_HISTORY = 16_777_212
 
 # A number with more digits than this is above every limit of the formats.
 MOST_DIGITS = 20

@@ -33,7 +33,7 @@ def turn_by_turn(random: Random) -> str:
         if random.random() < 0.5:
             commands += [command.line() + "\n" for command in drawer.commands()]
         commands += [POLLS] + ["c turns 1\n"] * random.randint(1, 14)
-    return f"schism 1\n{heap.line()}\n{OBJECTS}{''.join(commands)}"
+    return f"schism 1\n{heap.line(1)}\n{OBJECTS}{''.join(commands)}"
 
 
 def phase_by_phase(k: int, answered: bool) -> str:

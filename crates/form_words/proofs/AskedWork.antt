@@ -4,11 +4,13 @@ use Rattle.std.specs.Prelude.{codes, slice_index_or, IfSome}
 use Rattle.std.specs.Map.{lookup}
 use Rattle.std.specs.Str.Parse.{digits_value}
 use Rattle.heap_model.specs.Command.{IsWithin}
+use Rattle.form_words.specs.declared.kind.TextKind.{TextKind}
+use Rattle.form_words.specs.declared.kind.TextKind.TheVariants.{Script, History}
 use Rattle.form_words.specs.declared.pace.PaceName.{PaceName}
 use Rattle.form_words.specs.declared.pace.PaceName.TheVariants.{Steady}
 use Rattle.form_words.specs.declared.setting.Settings.{Settings}
 use Rattle.form_words.specs.declared.work.Work.{Work}
-use Rattle.form_words.specs.declared.work.Work.TheVariants.{Play, Run, Check, Plan, Make}
+use Rattle.form_words.specs.declared.work.Work.TheVariants.{Play, Run, Check, Plan, Make, Migrate}
 use Rattle.form_words.specs.Settings.{most_patience}
 use Rattle.form_words.specs.Works.{form_word, usual_patience, AskFor, Completes, IsRunSettings, IsWork}
 use Rattle.form_words.proofs.GivenSettings.{digits_value-decimal, given_patience_in_range, settings_of, settings_of-given}
@@ -26,6 +28,13 @@ make_by words =
     let at : ℕ → ℕ = λ k. digits_value 10 (slice_index_or words k []) in
     Make (at 0) (at 1) (at 2)
 
+-- the migration of the text that a word names
+abbrev kinds : List (List ℕ × TextKind)
+kinds = (codes "script", Script) ∷ (codes "history", History) ∷ []
+
+abbrev migrate_by : List (List ℕ) → Work
+migrate_by words = Migrate (unwrap_or (lookup (bytes_eq (slice_index_or words 0 [])) kinds) Script)
+
 -- the work of each form, by its word, that the words behind it ask for if they ask for any
 abbrev works_by_form : List (List ℕ) → List (List ℕ × Work)
 works_by_form rest =
@@ -34,6 +43,7 @@ works_by_form rest =
     ∷ (codes "check", Check)
     ∷ (codes "plan", Plan)
     ∷ (codes "make", make_by rest)
+    ∷ (codes "migrate", migrate_by rest)
     ∷ []
 
 -- the work that words ask for if they ask for any
@@ -59,6 +69,8 @@ work_of-asked words work asked = ap work_of asked.begins ∙ by asked.rest work 
   by rest (Run pace locked patience) (settings, gives, is) = ap (λ (s : Settings). Some (run_by s)) (settings_of-given rest settings gives) ∙ ap Some (run_by-settings pace locked patience settings is)
   by rest Check none = refl
   by rest Plan none = refl
+  by rest (Migrate Script) spelled = ap (λ (words : List (List ℕ)). Some (migrate_by words)) spelled
+  by rest (Migrate History) spelled = ap (λ (words : List (List ℕ)). Some (migrate_by words)) spelled
   by rest (Make start seats lines) (fits, spelled) =
       ap (λ (words : List (List ℕ)). Some (make_by words)) spelled ∙ ap Some (make_by-words start seats lines (fits, refl))
 
@@ -74,6 +86,7 @@ pub completed_work_is_in_range : (rest : List (List ℕ)) (work : Work) → Comp
 completed_work_is_in_range rest (Play pace brief press) gives = tt
 completed_work_is_in_range rest Check none = tt
 completed_work_is_in_range rest Plan none = tt
+completed_work_is_in_range rest (Migrate kind) spelled = tt
 completed_work_is_in_range rest (Make start seats lines) made = made.0
 completed_work_is_in_range rest (Run pace locked patience) (settings, gives, is) = by settings.patience is.patience_is (given_patience_in_range rest settings gives) where
   by : (given : Option ℕ) → patience ≡ unwrap_or given usual_patience → IfSome given (IsWithin 1 most_patience) → IsWithin 1 most_patience patience

@@ -1,9 +1,10 @@
 -- Words that begin with the word of a form and don't go on as it does are no form.
 use Rattle.std.proofs.Common.{◌≡◌, ℕ, Bool, List, ◌∷◌, Option, Some, None, refl, subst}
 use Rattle.std.specs.Prelude.{codes, IfNone, IfSome}
+use Rattle.form_words.specs.declared.kind.TextKind.{TextKind}
 use Rattle.form_words.specs.declared.pace.PaceName.{PaceName}
 use Rattle.form_words.specs.declared.work.Work.{Work}
-use Rattle.form_words.specs.declared.work.Work.TheVariants.{Play, Run}
+use Rattle.form_words.specs.declared.work.Work.TheVariants.{Play, Run, Migrate}
 use Rattle.form_words.specs.Works.{form_word, AskFor, Completes, IsForm, IsWork}
 use Rattle.form_words.proofs.AskedWork.{completed_work_is_in_range, work_of, work_of-asked}
 
@@ -27,6 +28,10 @@ none_found_no_play words rest (Some work) begins none = tt
 pub none_found_no_run : (words rest : List (List ℕ)) (found : Option Work) → words ≡ codes "run" ∷ rest → IfNone found ((pace : PaceName) (locked : Bool) (patience : ℕ) → ¬ Completes rest (Run pace locked patience)) → IfNone found (¬ IsForm words)
 none_found_no_run words rest None begins none = no_form (codes "run") words rest _ begins refl (none _ _ _)
 none_found_no_run words rest (Some work) begins none = tt
+
+pub none_found_no_migration : (words rest : List (List ℕ)) (found : Option Work) → words ≡ codes "migrate" ∷ rest → IfNone found ((kind : TextKind) → ¬ Completes rest (Migrate kind)) → IfNone found (¬ IsForm words)
+none_found_no_migration words rest None begins none = no_form (codes "migrate") words rest _ begins refl (none _)
+none_found_no_migration words rest (Some work) begins none = tt
 
 -- what was found has its numbers in their ranges
 pub found_work_is_in_range : (form : List ℕ) (rest : List (List ℕ)) (found : Option Work) → IfSome found (λ work. (form_word work ≡ form) × Completes rest work) → IfSome found IsWork

@@ -3,11 +3,13 @@ use Rattle.std.specs.Prelude.{◌≡◌, ℕ, ◌≤◌, Bool, false, List, [], 
 use Rattle.heap_model.specs.Command.{IsWithin}
 use Rattle.heap_model.specs.Limits.{most_seats}
 use Rattle.script_text.specs.Made.{most_start, most_made_lines}
+use Rattle.form_words.specs.declared.kind.TextKind.{TextKind}
+use Rattle.form_words.specs.declared.kind.TextKind.TheVariants.{Script, History}
 use Rattle.form_words.specs.declared.pace.PaceName.{PaceName}
 use Rattle.form_words.specs.declared.pace.PaceName.TheVariants.{Steady}
 use Rattle.form_words.specs.declared.setting.Settings.{Settings}
 use Rattle.form_words.specs.declared.work.Work.{Work}
-use Rattle.form_words.specs.declared.work.Work.TheVariants.{Play, Run, Check, Plan, Make}
+use Rattle.form_words.specs.declared.work.Work.TheVariants.{Play, Run, Check, Plan, Make, Migrate}
 use Rattle.form_words.specs.Settings.{no_settings, most_patience, GiveSettings}
 
 -- the word with which a form begins
@@ -17,6 +19,12 @@ form_word (Run pace locked patience) = codes "run"
 form_word Check = codes "check"
 form_word Plan = codes "plan"
 form_word (Make start seats lines) = codes "make"
+form_word (Migrate kind) = codes "migrate"
+
+-- the word that names a kind of text
+abbrev pub kind_word : TextKind → List ℕ
+kind_word Script = codes "script"
+kind_word History = codes "history"
 
 -- a script may be made from this start, for so many seats and of so many lines
 abbrev pub MayBeMade : ℕ → ℕ → ℕ → Type 0
@@ -47,6 +55,7 @@ Completes rest (Run pace locked patience) = (settings : Settings) × GiveSetting
 Completes rest Check = rest ≡ []
 Completes rest Plan = rest ≡ []
 Completes rest (Make start seats lines) = MayBeMade start seats lines × (rest ≡ decimal start ∷ decimal seats ∷ decimal lines ∷ [])
+Completes rest (Migrate kind) = rest ≡ kind_word kind ∷ []
 
 -- the words after the program's name ask for the work
 pub record AskFor (words : List (List ℕ)) (work : Work) : Type 0 where
@@ -71,6 +80,11 @@ most_script = 1048576
 abbrev pub most_history : ℕ
 most_history = 16777216
 
+-- the most bytes of a text that is migrated: what is written has four bytes more at most
+abbrev pub most_migrated : TextKind → ℕ
+most_migrated Script = 1048572
+most_migrated History = 16777212
+
 -- the most bytes of an input
 abbrev pub most_bytes : Work → ℕ
 most_bytes (Play pace brief press) = most_script
@@ -78,3 +92,4 @@ most_bytes (Run pace locked patience) = most_script
 most_bytes Check = most_history
 most_bytes Plan = most_history
 most_bytes (Make start seats lines) = 0
+most_bytes (Migrate kind) = most_migrated kind

@@ -2,11 +2,13 @@
 #![tactic(auto)]
 
 mod command;
+mod kind;
 mod matching;
 mod pace;
 mod range;
 mod setting;
 mod work;
 
+pub use kind::TextKind;
 pub use pace::PaceName;
-pub use work::{MOST_HISTORY, MOST_SCRIPT, Work};
+pub use work::{MOST_HISTORY, MOST_MIGRATED_HISTORY, MOST_MIGRATED_SCRIPT, MOST_SCRIPT, Work};

@@ -2,11 +2,13 @@ ghost use Rattle.std.specs.Prelude.{◌≡◌, ◌≤◌, [], ℕ, Some, decimal
 ghost use Rattle.clap.specs.Words.{app_of, first_of, found_of, is_simple_and_free, rows_of};
 ghost use Rattle.form_words.specs.Matched.{FindsMaking, FindsSettings};
 ghost use Rattle.form_words.specs.Works.{most_bytes, form_word, AskFor, Completes, IsForm, IsWork, HasInput};
+ghost use Rattle.form_words.specs.declared.kind.TextKind.{TextKind as AKind};
 ghost use Rattle.form_words.specs.declared.pace.PaceName.{PaceName as APaceName};
 ghost use Rattle.form_words.specs.declared.setting.Settings.{Settings as AreGiven};
 ghost use Rattle.form_words.specs.declared.work.Work.TheVariants as works;
 
 use crate::command::{make_command, play_command, run_command};
+use crate::kind::TextKind;
 use crate::matching::matches_in;
 use crate::pace::PaceName;
 use crate::range::number_in;
@@ -22,6 +24,12 @@ pub const MOST_SCRIPT: usize = 1_048_576;
 
 /// The most bytes of a history that is checked, or by which space is planned.
 pub const MOST_HISTORY: usize = 16_777_216;
+
+/// The most bytes of a script that is migrated, so that what is written may be played and run.
+pub const MOST_MIGRATED_SCRIPT: usize = 1_048_572;
+
+/// The most bytes of a history that is migrated, so that what is written may be checked.
+pub const MOST_MIGRATED_HISTORY: usize = 16_777_212;
 
 /// How often a seat of a run finds another one behind before it answers that its collect waits, where the words don't say.
 const USUAL_PATIENCE: u32 = 1_000;
@@ -52,6 +60,8 @@ pub enum Work {
         seats: u8,
         lines: u32,
     },
+    /// Writes a text of either version as the same in version 2.
+    Migrate(TextKind),
 }
 
 /// The settings that the command finds in the words, where it takes them and each value is one.
@@ -142,6 +152,20 @@ fn make_of<'a>(alloc: Global, words: &'a [&'a str]) -> Result<Option<Work>, Memo
     }
 }
 
+/// The migration that the words behind the form's ask for.
+fn migrate_of(words: &[&str]) -> Option<Work>
+    ensures some { IfSome result (λ work. (form_word work ≡ codes "migrate") × Completes (map (λ w. w.now) words.now) work) }
+    ensures none { IfNone result ((kind : AKind) → ¬ Completes (map (λ w. w.now) words.now) (works.Migrate kind)) }
+{
+    let Some((word, rest)) = words.split_first() else {
+        return None;
+    };
+    let Some(kind) = TextKind::of(word) else {
+        return None;
+    };
+    alone(Work::Migrate(kind), rest)
+}
+
 impl Work {
     /// The work that the words after the program's name ask for: none, where they are no form.
     pub fn of<'a>(alloc: Global, words: &'a [&'a str]) -> Result<Option<Work>, Memory>
@@ -158,6 +182,7 @@ impl Work {
             "check" => Ok(alone(Work::Check, rest)),
             "plan" => Ok(alone(Work::Plan, rest)),
             "make" => make_of(alloc, rest),
+            "migrate" => Ok(migrate_of(rest)),
             _ => Ok(None),
         }
     }
@@ -171,6 +196,8 @@ impl Work {
             Work::Play { .. } | Work::Run { .. } => Some(MOST_SCRIPT),
             Work::Check | Work::Plan => Some(MOST_HISTORY),
             Work::Make { .. } => None,
+            Work::Migrate(TextKind::Script) => Some(MOST_MIGRATED_SCRIPT),
+            Work::Migrate(TextKind::History) => Some(MOST_MIGRATED_HISTORY),
         }
     }
 }

@@ -5,7 +5,7 @@ use Rattle.heap_model.specs.Needs.{record_fragments}
 
 -- the fields of the heap's board
 abbrev pub board_fields : Heap → ℕ
-board_fields heap = 32
+board_fields heap = heap.board
 
 -- the fragments of the heap's board
 abbrev pub board_fragments : Heap → ℕ

@@ -10,6 +10,9 @@ pub const MOST_SPINE: u16 = 16384;
 /// The most seats of a heap.
 pub const MOST_SEATS: u8 = 16;
 
+/// The most fields of the board, those of a record.
+pub const MOST_BOARD: u8 = 47;
+
 /// The last seat that a heap may have.
 pub const LAST_SEAT: u8 = 15;
 

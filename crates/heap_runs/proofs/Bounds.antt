@@ -1,6 +1,7 @@
 -- What legal entries gain and lose is within bounds.
 use Rattle.std.proofs.Common.{◌+◌, ◌*◌, ◌≤◌, true, List, [], ◌∷◌, ◌++◌, sym, subst, append_assoc, append-nil, arith}
 use Rattle.heap_model.specs.declared.heap.Heap.{Heap}
+use Rattle.heap_model.specs.Heap.{IsHeap}
 use Rattle.heap_model.specs.declared.entry.Entry.{Entry}
 use Rattle.heap_model.specs.declared.entry.Entry.TheVariants as entries
 use Rattle.heap_model.specs.account.Account.{KeepsSpaceAfter, IsLegal, TakesAndGives}
@@ -29,8 +30,8 @@ module _ (heap : Heap) where
         total-more (λ e. e.freed) before entry,
       )))
 
-  pub gained_within : (history : List Entry) → 1 ≤ heap.groups → IsLegal heap true history → fragments_gained heap history ≤ 16 * heap.groups + fragments_lost history
-  gained_within history some legal = gained_after [] history legal.space (omega (arith, some))
+  pub gained_within : (history : List Entry) → IsHeap heap → IsLegal heap true history → fragments_gained heap history ≤ 16 * heap.groups + fragments_lost history
+  gained_within history limits legal = gained_after [] history legal.space (omega (arith, limits.some_group, limits.board_fits))
 
   -- no more spine words are returned than were granted
   swept_within : (before : List Entry) (entry : Entry) → Sweeps heap before entry → words_returned before ≤ words_granted before

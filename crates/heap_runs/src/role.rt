@@ -28,7 +28,7 @@ impl HeldName for Brand {
 
     ghost table = { no_table };
 
-    ghost heap = { record { groups = 0; spine = 0; seats = 0 } };
+    ghost heap = { record { groups = 0; spine = 0; seats = 0; board = 0 } };
 
     ghost before = { [] };
 }

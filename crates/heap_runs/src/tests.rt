@@ -45,7 +45,7 @@ fn plays_on_the_machine(rt: HostRuntime) -> Result<(), Fail> {
 #[test]
 fn turns_on_the_machine(rt: HostRuntime) -> Result<(), Fail> {
     let alloc = rt.alloc();
-    let heap = Heap::make(1, 0, 1).ok_or("a heap")?;
+    let heap = Heap::make(1, 0, 1, 32).ok_or("a heap")?;
     let mut whole = MachineHeap::make(alloc, heap)?;
     whole.room(3)?;
     assert!(rt; whole.spare() >= 3);
@@ -78,7 +78,7 @@ fn first_record<H: PlayHeap>(whole: &mut H) -> Result<Reply, Memory>
 #[test]
 fn calls_the_machine(rt: HostRuntime) -> Result<(), Fail> {
     let alloc = rt.alloc();
-    let heap = Heap::make(1, 0, 1).ok_or("a heap")?;
+    let heap = Heap::make(1, 0, 1, 32).ok_or("a heap")?;
     let mut whole = MachineHeap::make(alloc, heap)?;
     let made = Reply::Made(Id::Made { seat: 0, count: 0 });
     assert_eq!(rt; first_record(&mut whole)?, made);
@@ -102,7 +102,7 @@ fn plays_on_a_growing_graph(rt: HostRuntime) -> Result<(), Fail> {
 #[test]
 fn turns_on_a_growing_graph(rt: HostRuntime) -> Result<(), Fail> {
     let alloc = rt.alloc();
-    let heap = Heap::make(1, 0, 1).ok_or("a heap")?;
+    let heap = Heap::make(1, 0, 1, 32).ok_or("a heap")?;
     let mut whole = Growing::new(alloc, heap)?;
     assert_eq!(rt;
         turn_line(&mut whole, &TurnCommand::Turns(3))?,

@@ -39,7 +39,7 @@ pub trait HeapName {
 }
 
 impl HeapName for Brand {
-    ghost heap = { record { groups = 1; spine = 0; seats = 1 } };
+    ghost heap = { record { groups = 1; spine = 0; seats = 1; board = 1 } };
 }
 
 /// The next seat is handed out.

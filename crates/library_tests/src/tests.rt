@@ -1,5 +1,6 @@
 //! What the libraries up to log_merge answer to their public calls.
 
+mod boards;
 mod call_steps;
 mod checks;
 mod comparing;

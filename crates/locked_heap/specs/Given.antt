@@ -21,7 +21,7 @@ pub record Given : Type 0 where
 -- where nothing was given
 abbrev pub nothing_given : Given
 nothing_given = record {
-  heap = record { groups = 0; spine = 0; seats = 0 };
+  heap = record { groups = 0; spine = 0; seats = 0; board = 0 };
   opening = record { words = []; seats = []; collector = opening_collector };
   scripts = [];
   patience = 0;

@@ -1,3 +1,4 @@
 pub mod read_lemmas
 pub mod write_lemmas
 pub mod Whole
+pub mod SecondVersion

@@ -1,10 +1,11 @@
 -- How a history is spelled, and which histories have a text.
-use Rattle.std.specs.Prelude.{◌≡◌, ℕ, ◌<◌, ◌≤◌, ◌^◌, List, [], ◌∷◌, ◌++◌, Option, Some, None, codes, drop, length, map, take}
+use Rattle.std.specs.Prelude.{◌≡◌, ◌==◌, ℕ, ◌<◌, ◌≤◌, ◌^◌, List, [], ◌∷◌, ◌++◌, Option, Some, None, codes, drop, length, map, take, if◌then◌else◌}
 use Rattle.std.specs.List.{AllByRecursion}
-use Rattle.heap_model.specs.Heap.{IsHeap}
 use Rattle.heap_model.specs.declared.entry.Entry.{Entry}
+use Rattle.script_text.specs.declared.preamble.Preamble.{Preamble}
 use Rattle.script_text.specs.declared.script.Form.{Form}
 use Rattle.script_text.specs.declared.script.Form.TheVariants.{Play, Run}
+use Rattle.script_text.specs.Preamble.{IsPreamble}
 use Rattle.script_text.specs.Text.{lines_of}
 use Rattle.script_text.specs.Words.{heap_line}
 use Rattle.reply_text.specs.declared.history.History.{History}
@@ -15,10 +16,14 @@ use Rattle.reply_text.specs.Values.{IsSpace}
 use Rattle.reply_text.specs.write.Lines.{history_line}
 use Rattle.reply_text.specs.Written.{IsWritten}
 
--- the first line of a history, which tells its form
-abbrev pub form_line : Form → List ℕ
-form_line Play = codes "history 1 play"
-form_line Run = codes "history 1 run"
+-- the first line of a history, which tells its version and its form
+abbrev pub form_line : ℕ → Form → List ℕ
+form_line version Play = if version == 2 then codes "history 2 play" else codes "history 1 play"
+form_line version Run = if version == 2 then codes "history 2 run" else codes "history 1 run"
+
+-- what the first two lines of a history tell, beside its form
+abbrev pub history_preamble : History → Preamble
+history_preamble history = record { version = history.version; heap = history.heap }
 
 -- the space line of a mark
 abbrev pub space_line : SpaceMark → HistoryLine
@@ -35,7 +40,7 @@ body history = lines_with_mark history.mark history.entries ++ lines.End history
 
 -- the lines of a history
 abbrev pub history_lines : History → List (List ℕ)
-history_lines history = form_line history.form ∷ heap_line history.heap ∷ map history_line (body history)
+history_lines history = form_line history.version history.form ∷ heap_line (history_preamble history) ∷ map history_line (body history)
 
 -- the number of the first line that a history does not have
 abbrev pub too_many : ℕ
@@ -49,8 +54,8 @@ MarkFits form count mark = ⊥
 
 -- the history has a text
 pub record IsSpellable (history : History) : Type 0 where
-  pub heap : IsHeap history.heap
-  pub entries : AllByRecursion (IsWritten history.form history.heap.seats) history.entries
+  pub preamble : IsPreamble (history_preamble history)
+  pub entries : AllByRecursion (IsWritten history.form (history_preamble history)) history.entries
   pub mark : MarkFits history.form (length history.entries) history.mark
   pub end_used : history.end_used < 2 ^ 64
   pub short : length (history_lines history) < too_many

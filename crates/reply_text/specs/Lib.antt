@@ -4,3 +4,4 @@ pub mod History
 pub mod Values
 pub mod Replies
 pub mod Written
+pub mod Migration

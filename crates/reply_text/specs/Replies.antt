@@ -37,6 +37,11 @@ abbrev pub IsSetting : Reply → Type 0
 IsSetting (replies.Was stamp) = IsStamp stamp
 IsSetting reply = TellsNoPlace reply
 
+-- a reply that `cas` can give
+abbrev pub IsSwapping : Reply → Type 0
+IsSwapping (replies.Now stamp) = IsStamp stamp
+IsSwapping reply = IsSetting reply
+
 -- a reply that `same` can give
 abbrev pub IsComparing : Reply → Type 0
 IsComparing replies.Yes = Unit {0}
@@ -60,13 +65,13 @@ IsCollecting (replies.Cycle j) = j < 2 ^ 64
 IsCollecting (replies.Waits seat answered phase) = IsWait seat answered phase
 IsCollecting _ = ⊥
 
--- a reply that the command can give in a text, which has no cas yet
+-- a reply that the command can give
 abbrev pub IsReply : Command → Reply → Type 0
 IsReply (New d fields) reply = IsMaking reply
 IsReply (Array d cells) reply = IsArraying reply
 IsReply (Get d r i) reply = IsGetting reply
 IsReply (Set r i v) reply = IsSetting reply
-IsReply (Cas r i a v) reply = ⊥
+IsReply (Cas r i a v) reply = IsSwapping reply
 IsReply (Num d n) reply = reply ≡ replies.Done
 IsReply (Nil d) reply = reply ≡ replies.Done
 IsReply (Copy d r) reply = reply ≡ replies.Done

@@ -6,7 +6,6 @@ pub mod EntryWords
 pub mod Faults
 pub mod LineWords
 pub mod Parts
-pub mod Reading
 pub mod Stages
 pub mod Tokens
 pub mod TurnAnswers

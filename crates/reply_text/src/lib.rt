@@ -3,11 +3,15 @@
 
 mod history;
 mod history_line;
+mod migrating;
 mod read;
+#[cfg(test)]
+mod tests;
 mod write;
 
 pub use history::{History, SpaceMark};
 pub use history_line::HistoryLine;
+pub use migrating::migrate_history;
 pub use read::reading::read_history;
 pub use write::brief::render_brief;
 pub use write::counts::BriefCounts;

@@ -115,7 +115,7 @@ fn each_job_is_run_once(rt: HostRuntime) -> Result<(), Fail> {
     assert!(rt; jobs.len() <= 4096);
     assert!(rt; do_rise(jobs.as_slice()));
     for count in 1..5u8 {
-        let heap = Heap::make(1, 0, count).ok_or("a heap")?;
+        let heap = Heap::make(1, 0, count, 32).ok_or("a heap")?;
         let ran = ran_by(&rt, alloc, heap, jobs.as_slice(), &OpenGate)?;
         assert_eq!(rt; ran.runs.len(), 9);
         for (run, job) in ran.runs.as_slice().iter().zip(jobs.as_slice()) {
@@ -133,7 +133,7 @@ fn two_at_once(rt: HostRuntime) -> Result<(), Fail> {
     assert!(rt; !jobs.is_empty());
     assert!(rt; jobs.len() <= 4096);
     assert!(rt; do_rise(jobs.as_slice()));
-    let heap = Heap::make(1, 0, 2).ok_or("a heap")?;
+    let heap = Heap::make(1, 0, 2, 32).ok_or("a heap")?;
     let gate = Meeting::new();
     let ran = ran_by(&rt, alloc, heap, jobs.as_slice(), &gate)?;
     assert_eq!(rt; ran.runs.len(), 2);

@@ -5,7 +5,10 @@ pub mod Tokens
 pub mod NoFault
 pub mod Decoded
 pub mod WordBytes
+pub mod Texts
 pub mod Whole
 pub mod Sentences
 pub mod OperandCauses
 pub mod MadeLines
+pub mod SecondVersion
+pub mod EndedTexts

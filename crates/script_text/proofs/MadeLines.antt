@@ -1,12 +1,14 @@
 -- Made lines, one after the other.
-use Rattle.std.proofs.Common.{◌≡◌, ℕ, ◌+◌, ◌<◌, ◌≤◌, ◌%◌, List, [], ◌∷◌, ◌++◌, map, length, refl, sym, add-one, arith, rules}
+use Rattle.std.proofs.Common.{◌≡◌, ℕ, ◌+◌, ◌<◌, ◌≤◌, ◌%◌, inl, List, [], ◌∷◌, ◌++◌, map, length, refl, sym, add-one, arith, rules}
 use Rattle.std.specs.List.{AllByRecursion, range_with_len}
 use Rattle.std.proofs.lemmas.List.FromFn.{length-map-range_with_len, map-range_with_len_more}
 use Rattle.heap_model.specs.Command.{IsWithin}
 use Rattle.heap_model.specs.Limits.{most_seats}
+use Rattle.script_text.specs.declared.preamble.Preamble.{Preamble}
 use Rattle.script_text.specs.declared.script.Form.{Form}
 use Rattle.script_text.specs.declared.script.Line.{Line}
 use Rattle.script_text.specs.declared.script.Line.TheVariants as lines
+use Rattle.script_text.specs.Commands.{version_commands}
 use Rattle.script_text.specs.Generator.{state_after_draws}
 use Rattle.script_text.specs.Grammar.{IsLine, IsScripted}
 use Rattle.script_text.specs.Made.{made_command, made_heap, made_line, draws_of, most_made_lines, state_before}
@@ -32,21 +34,27 @@ AllByRecursion-push : {X : Type 0} (P : X → Type 0) (xs : List X) (x : X) → 
 AllByRecursion-push P [] x all here = (here, tt)
 AllByRecursion-push P (y ∷ ys) x all here = (all.0, AllByRecursion-push P ys x all.1 here)
 
+-- what the first two lines of a made script tell
+abbrev pub made_preamble : ℕ → Preamble
+made_preamble seats = record { version = 1; heap = made_heap seats }
+
 -- a line more is of the grammar, in each form
-pub made_lines_stay_in_grammar : (form : Form) (seats number state : ℕ) (before after : List Line) (line : Line) → 1 ≤ seats → IsScripted (made_command seats number state) →
-    line ≡ lines.Seat (number % seats) (made_command seats number state) → after ≡ before ++ line ∷ [] → AllByRecursion (IsLine form seats) before → AllByRecursion (IsLine form seats) after
+pub made_lines_stay_in_grammar : (form : Form) (seats number state : ℕ) (before after : List Line) (line : Line) → 1 ≤ seats → IsScripted (version_commands 1) (made_command seats number state) →
+    line ≡ lines.Seat (number % seats) (made_command seats number state) → after ≡ before ++ line ∷ [] →
+    AllByRecursion (IsLine form (made_preamble seats)) before → AllByRecursion (IsLine form (made_preamble seats)) after
 made_lines_stay_in_grammar form seats number state before after line some scripted e f range =
     let below : number % seats < seats = omega arith in
-    let here : IsLine form seats line = rw e (below, scripted) in
-    rw f (AllByRecursion-push (IsLine form seats) before line range here)
+    let here : IsLine form (made_preamble seats) line = rw e (below, scripted) in
+    rw f (AllByRecursion-push (IsLine form (made_preamble seats)) before line range here)
 
 -- lines of a number are of a script for plays and runs
 pub IsOfForm-made : (form : Form) (start seats count : ℕ) (made : List Line) → IsWithin 1 most_seats seats → count ≤ most_made_lines → made ≡ lines_before start seats count →
-    AllByRecursion (IsLine form seats) made → IsOfForm form (record { heap = made_heap seats; lines = made })
+    AllByRecursion (IsLine form (made_preamble seats)) made → IsOfForm form (record { version = 1; heap = made_heap seats; lines = made })
 IsOfForm-made form start seats count made within few e range =
     let counted : length made ≡ count = rw e (length-map-range_with_len (made_line start seats) 0 count) in
     record {
-      heap = search (rules, within);
+      preamble = record { version = inl refl; heap = search (rules, within); board = λ first. refl };
+      taken = refl;
       lines = range;
       short = omega (arith, counted);
     }

@@ -14,7 +14,7 @@ without_empty_last-more line [] h = absurd (omega arith)
 without_empty_last-more line (part ∷ parts) h = refl
 
 -- with one more byte in front, the parts but for an empty last one have that byte in front too
-without_empty_last-step : (x : ℕ) (parts kept : List (List ℕ)) (b : Bool) → 0 < length parts → without_empty_last parts ≡ kept →
+pub without_empty_last-step : (x : ℕ) (parts kept : List (List ℕ)) (b : Bool) → 0 < length parts → without_empty_last parts ≡ kept →
     without_empty_last (cond b ([] ∷ parts) (onto_first x parts)) ≡ cond b ([] ∷ kept) (onto_first x kept)
 without_empty_last-step x parts kept true some e = rw (without_empty_last-more [] parts some) (ap (λ ps. [] ∷ ps) e)
 without_empty_last-step x [] kept false some e = absurd (omega arith)
@@ -51,9 +51,10 @@ pub sentence-words_of : (line : List ℕ) (words : List (List ℕ)) → words_of
 sentence-words_of line words e = sym (join_with_byte-slice_split 32 line) ∙ ap (join_with_byte 32) e
 
 -- so a line with the words of a heap line is that line
-pub heap_line-words_of : (line : List ℕ) (heap : Option Heap) → IfSome heap (λ h. words_of line ≡ codes "heap" ∷ heap_words h) → IfSome heap (λ h. line ≡ heap_line h)
-heap_line-words_of line None e = tt
-heap_line-words_of line (Some heap) e = sentence-words_of line (codes "heap" ∷ heap_words heap) e
+pub heap_line-words_of : (line : List ℕ) (version : ℕ) (heap : Option Heap) → IfSome heap (λ h. words_of line ≡ codes "heap" ∷ heap_words (record { version = version; heap = h })) →
+    IfSome heap (λ h. line ≡ heap_line (record { version = version; heap = h }))
+heap_line-words_of line version None e = tt
+heap_line-words_of line version (Some heap) e = sentence-words_of line (codes "heap" ∷ heap_words (record { version = version; heap = heap })) e
 
 -- lines without a line feed in them are the lines of their text
 pub lines_of-text_of : (lines : List (List ℕ)) → AllByRecursion (IsAbove 31) lines → lines_of (text_of lines) ≡ lines

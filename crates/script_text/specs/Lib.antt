@@ -1,9 +1,12 @@
 pub mod Text
+pub mod Preamble
+pub mod Commands
 pub mod Words
 pub mod Grammar
 pub mod Numbers
 pub mod Operands
 pub mod HeapLine
+pub mod Judge
 pub mod LineFaults
 pub mod Faults
 pub mod Reading
@@ -12,3 +15,4 @@ pub mod Left
 pub mod Writing
 pub mod Generator
 pub mod Made
+pub mod Migration

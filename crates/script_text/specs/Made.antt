@@ -9,6 +9,7 @@ use Rattle.script_text.specs.declared.script.Line.{Line}
 use Rattle.script_text.specs.declared.script.Line.TheVariants as lines
 use Rattle.script_text.specs.declared.script.Script.{Script}
 use Rattle.script_text.specs.Generator.{draw, state_after_draws}
+use Rattle.script_text.specs.Preamble.{usual_board}
 use Rattle.script_text.specs.Words.{command_words}
 
 -- the greatest start of the generator
@@ -69,8 +70,8 @@ made_line start seats i = lines.Seat (i % seats) (made_command seats i (state_be
 
 -- the heap of a made script
 abbrev pub made_heap : ℕ → Heap
-made_heap seats = record { groups = 64; spine = 256; seats = seats }
+made_heap seats = record { groups = 64; spine = 256; seats = seats; board = usual_board }
 
 -- the script that is made from this start, for so many seats and of so many lines
 abbrev pub made_script : ℕ → ℕ → ℕ → Script
-made_script start seats count = record { heap = made_heap seats; lines = map (made_line start seats) (range_with_len 0 count) }
+made_script start seats count = record { version = 1; heap = made_heap seats; lines = map (made_line start seats) (range_with_len 0 count) }

@@ -2,7 +2,7 @@
 use Rattle.std.specs.Prelude.{ℕ, ◌-◌, ◌&&◌, List, [], ◌∷◌, Option, Some, None, Result, Ok, Err, codes, nat_le, slice_index, if◌then◌else◌}
 use Rattle.heap_model.specs.Limits.{last_register, last_index, most_fields, most_cells, most_turns, number_limit}
 use Rattle.heap_model.specs.declared.command.Command.{Command}
-use Rattle.heap_model.specs.declared.command.Command.TheVariants.{New, Array, Get, Set, Num, Nil, Copy, Same, Len, Poll, Collect}
+use Rattle.heap_model.specs.declared.command.Command.TheVariants.{New, Array, Get, Set, Cas, Num, Nil, Copy, Same, Len, Poll, Collect}
 use Rattle.script_text.specs.declared.cause.Cause.{Cause}
 use Rattle.script_text.specs.declared.cause.Cause.TheVariants.{BadNumber, OutOfRange, TooManyWords}
 use Rattle.script_text.specs.Numbers.{number_of}
@@ -30,6 +30,7 @@ commands =
     ∷ (codes "array", target_range ∷ (1, most_cells) ∷ [])
     ∷ (codes "get", target_range ∷ register_range ∷ index_range ∷ [])
     ∷ (codes "set", register_range ∷ index_range ∷ register_range ∷ [])
+    ∷ (codes "cas", register_range ∷ index_range ∷ register_range ∷ register_range ∷ [])
     ∷ (codes "num", target_range ∷ (0, number_limit - 1) ∷ [])
     ∷ (codes "nil", target_range ∷ [])
     ∷ (codes "copy", target_range ∷ register_range ∷ [])
@@ -47,6 +48,7 @@ commands_with ns =
     ∷ (codes "array", Array (at 0) (at 1))
     ∷ (codes "get", Get (at 0) (at 1) (at 2))
     ∷ (codes "set", Set (at 0) (at 1) (at 2))
+    ∷ (codes "cas", Cas (at 0) (at 1) (at 2) (at 3))
     ∷ (codes "num", Num (at 0) (at 1))
     ∷ (codes "nil", Nil (at 0))
     ∷ (codes "copy", Copy (at 0) (at 1))

@@ -1,21 +1,32 @@
--- The words that spell a heap, a command and a line.
-use Rattle.std.specs.Prelude.{ℕ, List, [], ◌∷◌, codes, decimal, map}
-use Rattle.heap_model.specs.declared.heap.Heap.{Heap}
+-- The words that spell a heap, a command and a line, and the lines that spell a text.
+use Rattle.std.specs.Prelude.{ℕ, ◌==◌, List, [], ◌∷◌, codes, decimal, map, if◌then◌else◌}
 use Rattle.heap_model.specs.declared.command.Command.{Command}
 use Rattle.heap_model.specs.declared.command.Command.TheVariants.{New, Array, Get, Set, Cas, Num, Nil, Copy, Same, Len, Poll, Collect, Leave}
 use Rattle.heap_model.specs.declared.command.TurnCommand.{TurnCommand}
 use Rattle.heap_model.specs.declared.command.TurnCommand.TheVariants as turns
+use Rattle.script_text.specs.declared.preamble.Preamble.{Preamble}
 use Rattle.script_text.specs.declared.script.Line.{Line}
 use Rattle.script_text.specs.declared.script.Line.TheVariants as lines
+use Rattle.script_text.specs.declared.script.Script.{Script}
 use Rattle.script_text.specs.Text.{sentence}
 
--- the three numbers of a heap line, as words
-abbrev pub heap_words : Heap → List (List ℕ)
-heap_words heap = decimal heap.groups ∷ decimal heap.spine ∷ decimal heap.seats ∷ []
+-- the number of the board's fields, as a word of a heap line: from version 2 on there is one
+abbrev pub board_words : ℕ → ℕ → List (List ℕ)
+board_words version board = if version == 2 then decimal board ∷ [] else []
+
+-- the numbers of a heap line, as words
+abbrev pub heap_words : Preamble → List (List ℕ)
+heap_words preamble =
+    let heap = preamble.heap in
+    decimal heap.groups ∷ decimal heap.spine ∷ decimal heap.seats ∷ board_words preamble.version heap.board
 
 -- the heap line
-abbrev pub heap_line : Heap → List ℕ
-heap_line heap = sentence (codes "heap" ∷ heap_words heap)
+abbrev pub heap_line : Preamble → List ℕ
+heap_line preamble = sentence (codes "heap" ∷ heap_words preamble)
+
+-- the lines of a text: its first one, the heap line, and the further ones, each by its words
+abbrev pub text_lines : {L : Type 0} → List ℕ → (L → List (List ℕ)) → Preamble → List L → List (List ℕ)
+text_lines header words preamble lines = header ∷ heap_line preamble ∷ map (λ line. sentence (words line)) lines
 
 -- the words of a command
 abbrev pub command_words : Command → List (List ℕ)
@@ -47,6 +58,14 @@ line_words (lines.Turns command) = codes "c" ∷ turn_words command
 abbrev pub line_text : Line → List ℕ
 line_text line = sentence (line_words line)
 
+-- the first line of a script
+abbrev pub script_header : ℕ → List ℕ
+script_header version = if version == 2 then codes "schism 2" else codes "schism 1"
+
+-- what the first two lines of a script tell
+abbrev pub preamble_of : Script → Preamble
+preamble_of script = record { version = script.version; heap = script.heap }
+
 -- the lines of a script's text
-abbrev pub script_lines : Heap → List Line → List (List ℕ)
-script_lines heap lines = codes "schism 1" ∷ heap_line heap ∷ map line_text lines
+abbrev pub script_lines : Script → List (List ℕ)
+script_lines script = text_lines (script_header script.version) line_words (preamble_of script) script.lines

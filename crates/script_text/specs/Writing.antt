@@ -1,13 +1,9 @@
 -- Which scripts can be written.
-use Rattle.std.specs.Prelude.{◌+◌, ◌≤◌, length}
-use Rattle.std.specs.List.{AllByRecursion}
-use Rattle.heap_model.specs.Heap.{IsHeap}
 use Rattle.script_text.specs.declared.script.Form.{Form}
 use Rattle.script_text.specs.declared.script.Script.{Script}
-use Rattle.script_text.specs.Grammar.{IsLine, most_lines}
+use Rattle.script_text.specs.Grammar.{IsLine, IsTold, takes_any}
+use Rattle.script_text.specs.Words.{preamble_of}
 
 -- the script is of the grammar, in this form
-pub record IsOfForm (form : Form) (script : Script) : Type 0 where
-  pub heap : IsHeap script.heap
-  pub lines : AllByRecursion (IsLine form script.heap.seats) script.lines
-  pub short : length script.lines + 2 ≤ most_lines
+abbrev pub IsOfForm : Form → Script → Type 0
+IsOfForm form script = IsTold takes_any (IsLine form) (preamble_of script) script.lines

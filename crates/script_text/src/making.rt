@@ -3,12 +3,14 @@ ghost use Rattle.heap_model.specs.Command.{IsTarget, IsRegister, IsIndex, IsWith
 ghost use Rattle.heap_model.specs.Limits.{most_seats};
 ghost use Rattle.script_text.specs.declared.script.Form.TheVariants.{Play, Run};
 ghost use Rattle.script_text.specs.declared.script.Line.TheVariants as lines;
+ghost use Rattle.script_text.specs.Commands.{version_commands};
 ghost use Rattle.script_text.specs.Generator.{draw, next_state, state_after_draws};
 ghost use Rattle.script_text.specs.Grammar.{IsScripted};
 ghost use Rattle.script_text.specs.Made.{drawn_command, drawn_index, drawn_register, drawn_target, draws_of, made_command, made_script, most_made_lines, most_start};
 ghost use Rattle.script_text.specs.Writing.{IsOfForm};
 
 use crate::generator::Generator;
+use crate::preamble::USUAL_BOARD;
 use crate::script::{Line, Script};
 use crate::sequence::Sequence;
 use heap_model::limits::{LAST_REGISTER, REGISTER_COUNT};
@@ -59,7 +61,7 @@ fn size(generator: &mut Generator, most: u16) -> u16
 fn command(generator: &mut Generator) -> Command
     ensures drawn { result ≡ drawn_command generator.old }
     ensures state { generator.new ≡ state_after_draws (draws_of result) generator.old }
-    ensures range { IsScripted result }
+    ensures range { IsScripted (version_commands 1) result }
 {
     match generator.draw() % 8 {
         0 => {
@@ -110,7 +112,7 @@ fn line(generator: &mut Generator, seats: u8, number: u32) -> Line
     requires { 1 ≤ seats }
     ensures made { result ≡ lines.Seat (number % seats) (made_command seats number generator.old) }
     ensures state { generator.new ≡ state_after_draws (draws_of (made_command seats number generator.old)) generator.old }
-    ensures range { IsScripted (made_command seats number generator.old) }
+    ensures range { IsScripted (version_commands 1) (made_command seats number generator.old) }
 {
     let seats = u32::from(seats);
     let seat = (number % seats) as u8;
@@ -145,6 +147,11 @@ pub fn make_script(alloc: Global, start: u32, seats: u8, lines: u32) -> Result<S
         groups: 64,
         spine: 256,
         seats,
+        board: USUAL_BOARD,
     };
-    Ok(Script { heap, lines: made })
+    Ok(Script {
+        version: 1,
+        heap,
+        lines: made,
+    })
 }

@@ -3,13 +3,14 @@ ghost use Rattle.std.specs.Map.{lookup};
 ghost use Rattle.script_text.specs.Names.{name_text};
 ghost use Rattle.script_text.specs.Operands.{commands};
 
-/// The commands of a seat.
+/// The commands of a seat that a script may have.
 #[derive(Clone, Copy, Debug, PartialEq, Eq)]
 pub enum Name {
     New,
     Array,
     Get,
     Set,
+    Cas,
     Num,
     Nil,
     Copy,
@@ -30,6 +31,7 @@ pub fn read_name(word: &[u8]) -> Option<Name>
         b"array" => Some(Name::Array),
         b"get" => Some(Name::Get),
         b"set" => Some(Name::Set),
+        b"cas" => Some(Name::Cas),
         b"num" => Some(Name::Num),
         b"nil" => Some(Name::Nil),
         b"copy" => Some(Name::Copy),

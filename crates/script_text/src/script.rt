@@ -1,3 +1,6 @@
+ghost use Rattle.std.specs.Prelude.{◌≡◌};
+
+use crate::preamble::Preamble;
 use crate::sequence::Sequence;
 use heap_model::{Command, Heap, TurnCommand};
 
@@ -15,9 +18,24 @@ pub enum Line {
     Turns { command: TurnCommand },
 }
 
-/// A script: the heap that it asks for, and its further lines.
+/// A script: its version, which is 1 or 2, the heap that it asks for, and its further lines.
 #[derive(Debug, Drop)]
 pub struct Script {
+    pub version: u8,
     pub heap: Heap,
     pub lines: Sequence<Line>,
+}
+
+impl Script {
+    ghost use Rattle.script_text.specs.Words.{preamble_of};
+
+    /// What its first two lines tell.
+    pub fn preamble(&self) -> Preamble
+        ensures { result ≡ preamble_of self.now }
+    {
+        Preamble {
+            version: self.version,
+            heap: self.heap,
+        }
+    }
 }

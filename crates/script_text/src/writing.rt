@@ -1,8 +1,9 @@
 ghost use Rattle.std.specs.Prelude.{◌≡◌, [], ◌∷◌, ◌++◌, decimal, OnOk};
 ghost use Rattle.script_text.specs.Text.{words_with_spaces};
-ghost use Rattle.script_text.specs.Words.{command_words, heap_words, turn_words};
+ghost use Rattle.script_text.specs.Words.{board_words, command_words, heap_words, turn_words};
 
-use heap_model::{Command, Heap, Memory, TurnCommand};
+use crate::preamble::Preamble;
+use heap_model::{Command, Memory, TurnCommand};
 use itoa::Buffer;
 
 /// Appends a space and the word.
@@ -116,10 +117,23 @@ pub fn push_turns(text: &mut Vec<u8>, command: &TurnCommand) -> Result<(), Memor
 }
 
 /// Appends the words of a heap line but for the first, each after a space.
-pub fn push_heap(text: &mut Vec<u8>, heap: &Heap) -> Result<(), Memory>
-    ensures { OnOk result (text.new.items ≡ text.old.items ++ words_with_spaces (heap_words heap.now)) }
+pub fn push_heap(text: &mut Vec<u8>, preamble: &Preamble) -> Result<(), Memory>
+    ensures { OnOk result (text.new.items ≡ text.old.items ++ words_with_spaces (heap_words preamble.now)) }
 {
+    let heap = preamble.heap;
     push_number(text, heap.groups.into())?;
     push_number(text, heap.spine.into())?;
-    push_number(text, heap.seats.into())
+    push_number(text, heap.seats.into())?;
+    push_board(text, preamble.version, heap.board)
+}
+
+/// Appends the number of the board's fields, where the version has one.
+fn push_board(text: &mut Vec<u8>, version: u8, board: u8) -> Result<(), Memory>
+    ensures { OnOk result (text.new.items ≡ text.old.items ++ words_with_spaces (board_words version board)) }
+{
+    if version == 2 {
+        push_number(text, board.into())
+    } else {
+        Ok(())
+    }
 }

@@ -2,11 +2,13 @@
 use Rattle.std.proofs.Common.{◌≡◌, ℕ, zero, suc, ◌+◌, ◌-◌, ◌*◌, ◌/◌, ◌%◌, ◌<◌, ◌≤◌, ◌^◌, inl, inr, List, All, refl, sym, subst, arith, ◌∙◌, get_or, ltb, true, lt-ltb}
 use Rattle.std.proofs.lemmas.Bool.Decides.{leb_tells, eqb_tells}
 use Rattle.std.proofs.lemmas.Grind.{get_or_default_zero}
+use Rattle.heap_model.specs.Board.{board_fields, board_fragments}
 use Rattle.core_machine.proofs.Terms.{Heap, IsHeap, Address, Phase, Answer, Budget, Control, Word, table_length, index_of, InTable, at, State, IsMachine}
 use Rattle.core_machine.specs.declared.table.address.Address.TheVariants.{Spot, Spine}
 use Rattle.core_machine.specs.machine.Opening.{IsOpening, opening_word, board, board_name}
+use Rattle.core_machine.proofs.machine_lemmas.BoardPlace.{board_within, board_bits_fit_group}
 use Rattle.core_machine.proofs.machine_lemmas.Opens.{opened_is_machine}
-use Rattle.core_machine.proofs.table_lemmas.Wide.{record_word_fits_bits}
+use Rattle.core_machine.proofs.table_lemmas.Wide.{listed_fragment_is_small, record_word_fits_bits}
 
 -- the address of the word at an index of the table
 record Addressed (heap : Heap) (i : ℕ) : Type 0 where
@@ -53,32 +55,18 @@ addressed heap i within = elim (eqb_tells i 0) [
   ]
 ]
 
-board_small : (heap : Heap) (i : ℕ) → get_or (board heap) i 0 < 2 ^ 16
-board_small heap zero = omega arith
-board_small heap (suc zero) = omega arith
-board_small heap (suc (suc zero)) = omega arith
-board_small heap (suc (suc (suc zero))) = omega arith
-board_small heap (suc (suc (suc (suc zero)))) = omega arith
-board_small heap (suc (suc (suc (suc (suc zero))))) = omega arith
-board_small heap (suc (suc (suc (suc (suc (suc zero)))))) = omega arith
-board_small heap (suc (suc (suc (suc (suc (suc (suc zero))))))) = omega arith
-board_small heap (suc (suc (suc (suc (suc (suc (suc (suc zero)))))))) = omega arith
-board_small heap (suc (suc (suc (suc (suc (suc (suc (suc (suc zero))))))))) = omega arith
-board_small heap (suc (suc (suc (suc (suc (suc (suc (suc (suc (suc zero)))))))))) = omega arith
-board_small heap (suc (suc (suc (suc (suc (suc (suc (suc (suc (suc (suc i))))))))))) = omega arith
-
 -- each word at the opening is a word
-opening_wide : (heap : Heap) (a : Address) → opening_word heap a < 2 ^ 64
-opening_wide heap Phase = omega arith
-opening_wide heap (Answer number) = elim (leb_tells (suc number) heap.seats) as (λ _. opening_word heap (Answer number) < 2 ^ 64) [ inl seat ↦ rw seat.0 (omega arith) | inr gone ↦ rw gone.0 (omega arith) ]
-opening_wide heap Budget = omega arith
-opening_wide heap Spot = omega arith
-opening_wide heap (Control group) = elim (eqb_tells group 0) as (λ _. opening_word heap (Control group) < 2 ^ 64) [ inl first ↦ rw first.0 (omega arith) | inr later ↦ rw later.0 (omega arith) ]
-opening_wide heap (Word fragment part) = elim (leb_tells (suc fragment) 11) as (λ _. opening_word heap (Word fragment part) < 2 ^ 64) [
-  | inl of_board ↦ rw of_board.0 (record_word_fits_bits board_name 32 (board heap) fragment part (omega arith) (omega arith) (omega arith) (board_small heap))
+opening_wide : (heap : Heap) → IsHeap heap → (a : Address) → opening_word heap a < 2 ^ 64
+opening_wide heap limits Phase = omega arith
+opening_wide heap limits (Answer number) = elim (leb_tells (suc number) heap.seats) as (λ _. opening_word heap (Answer number) < 2 ^ 64) [ inl seat ↦ rw seat.0 (omega arith) | inr gone ↦ rw gone.0 (omega arith) ]
+opening_wide heap limits Budget = omega arith
+opening_wide heap limits Spot = omega arith
+opening_wide heap limits (Control group) = elim (eqb_tells group 0) as (λ _. opening_word heap (Control group) < 2 ^ 64) [ inl first ↦ rw first.0 (omega (arith, board_bits_fit_group heap limits)) | inr later ↦ rw later.0 (omega arith) ]
+opening_wide heap limits (Word fragment part) = elim (leb_tells (suc fragment) (board_fragments heap)) as (λ _. opening_word heap (Word fragment part) < 2 ^ 64) [
+  | inl of_board ↦ rw of_board.0 (record_word_fits_bits board_name (board_fields heap) (board heap) fragment part (omega arith) (omega arith) (omega (arith, limits.board_fits)) (λ i. listed_fragment_is_small heap (board heap) i limits (board_within heap limits)))
   | inr free ↦ rw free.0 (omega arith)
 ]
-opening_wide heap (Spine half offset) = omega arith
+opening_wide heap limits (Spine half offset) = omega arith
 
 word_at : (heap : Heap) (words : List ℕ) (a : Address) → at heap words a ≡ get_or words (index_of heap a) 0
 unfolding at
@@ -93,4 +81,4 @@ opening_is_machine heap state limits opens =
         let one : Addressed heap i = addressed heap i (subst (λ n. i < n) opens.table below) in
         let same : get_or state.words i 0 ≡ opening_word heap one.address = subst (λ n. get_or state.words n 0 ≡ opening_word heap one.address) one.is (sym (word_at heap state.words one.address) ∙ opens.words_open one.address one.there) in
         let other : get_or state.words i d ≡ get_or state.words i 0 = get_or_default_zero state.words i d below in
-        subst (λ n. n < 2 ^ 64) (sym (other ∙ same)) (opening_wide heap one.address)
+        subst (λ n. n < 2 ^ 64) (sym (other ∙ same)) (opening_wide heap limits one.address)

@@ -9,12 +9,14 @@ use Rattle.std.specs.List.{range_with_len, All}
 use Rattle.std.proofs.lemmas.List.FromFn.{get_or-map-range_with_len, length-map-range_with_len}
 use Rattle.std.proofs.lemmas.List.Elements.{All-nil, All-cons, All-replicate}
 use Rattle.core_machine.proofs.Terms.{Heap, IsHeap, Address, Phase, Answer, Budget, Control, Word, table_length, index_of, InTable, at, put, Seat, absent_seat, Nil, Object}
-use Rattle.core_machine.proofs.Terms.{pointer_in, IsWithinHeap, FoundPointsWithin, AreFragments, FitsRegister, Fits, IsMachine}
+use Rattle.core_machine.proofs.Terms.{pointer_in, IsWithinHeap, FoundPointsWithin, FitsRegister, Fits, IsMachine}
 use Rattle.core_machine.specs.declared.table.address.Address.TheVariants.{Spot, Spine}
 use Rattle.core_machine.specs.machine.Opening.{board, board_name, board_word, board_group, opening_word, opening_seat, with_left, with_board}
+use Rattle.heap_model.specs.Board.{board_fields, board_fragments}
 use Rattle.heap_model.specs.declared.id.Id.TheVariants.{Board}
 use Rattle.core_machine.specs.collector.Collector.{Collector, opening_collector}
 use Rattle.core_machine.specs.seat.Fits.{CollectorFits}
+use Rattle.core_machine.proofs.machine_lemmas.BoardPlace.{board_within}
 use Rattle.core_machine.proofs.seat_lemmas.Aside.{left_aside_is_absurd, empty_hand_fits, empty_way_fits}
 use Rattle.core_machine.proofs.table_lemmas.Leading.{record_leads_within_heap, zero_leads_within_heap}
 use Rattle.core_machine.proofs.table_lemmas.Addresses.{length-put, at-put_same, at-put_other}
@@ -59,7 +61,7 @@ with_board-other heap fragment part position word other =
       | inr above ↦ rw (above.0, le-ltb (4 * fragment + part) (position + 1) (omega arith)) refl
     ]
 
-pub put_boards_one_more : (heap : Heap) (words : List ℕ) (position : ℕ) (a : Address) (word : ℕ) → length words ≡ table_length heap → 1 ≤ heap.groups → position < 44
+pub put_boards_one_more : (heap : Heap) (words : List ℕ) (position : ℕ) (a : Address) (word : ℕ) → length words ≡ table_length heap → 1 ≤ heap.groups → position < 64
     → InTable heap a → at heap words a ≡ with_board heap position a word
     → at heap (put heap words (Word (position / 4) (position % 4)) (next_word heap position)) a ≡ with_board heap (position + 1) a word
 put_boards_one_more heap words position (Word fragment part) word table some within there is =
@@ -106,7 +108,7 @@ between heap left a spot group some within apart away =
 module _ (heap : Heap) (zeros left words : List ℕ) (some : 1 ≤ heap.groups) (table : length left ≡ table_length heap) where
   -- the words, once all is written, are those of the opening
   pub words_are_opening_words : (a : Address) → InTable heap a → at heap zeros a ≡ 0 → at heap left a ≡ with_left heap 16 a (at heap zeros a)
-      → at heap words a ≡ with_board heap 44 a (at heap (put heap (put heap left Spot spot_word_of) (Control 0) (board_group heap)) a)
+      → at heap words a ≡ with_board heap (4 * board_fragments heap) a (at heap (put heap (put heap left Spot spot_word_of) (Control 0) (board_group heap)) a)
       → at heap words a ≡ opening_word heap a
   words_are_opening_words Phase within zero left_is is = is ∙ between heap left Phase spot_word_of (board_group heap) some within (λ e. cc) (λ e. cc) ∙ left_is ∙ zero
   words_are_opening_words Budget within zero left_is is = is ∙ between heap left Budget spot_word_of (board_group heap) some within (λ e. cc) (λ e. cc) ∙ left_is ∙ zero
@@ -125,17 +127,10 @@ module _ (heap : Heap) (zeros left words : List ℕ) (some : 1 ≤ heap.groups) 
       ]
   words_are_opening_words (Word fragment part) within zero left_is is =
       let rest = between heap left (Word fragment part) spot_word_of (board_group heap) some within (λ e. cc) (λ e. cc) ∙ left_is ∙ zero in
-      elim (leb_tells (suc fragment) 11) as (λ _. at heap words (Word fragment part) ≡ opening_word heap (Word fragment part)) [
-        | inl board_ ↦ rw board_.0 (is ∙ rw (lt-ltb (4 * fragment + part) 44 (omega arith)) refl)
-        | inr past ↦ rw past.0 (is ∙ rw (le-ltb (4 * fragment + part) 44 (omega arith)) rest)
+      elim (leb_tells (suc fragment) (board_fragments heap)) as (λ _. at heap words (Word fragment part) ≡ opening_word heap (Word fragment part)) [
+        | inl board_ ↦ rw board_.0 (is ∙ rw (lt-ltb (4 * fragment + part) (4 * board_fragments heap) (omega arith)) refl)
+        | inr past ↦ rw past.0 (is ∙ rw (le-ltb (4 * fragment + part) (4 * board_fragments heap) (omega arith)) rest)
       ]
-
--- the board's fragments are the heap's
-board_within : (heap : Heap) → 1 ≤ heap.groups → AreFragments heap (board heap)
-board_within heap some = list 11 0 (omega arith) where
-  list : (n from : ℕ) → from + n ≤ 11 → All (λ fragment. fragment < 16 * heap.groups) (range_with_len from n)
-  list Prim.Native.Nat.zero from few = All-nil (λ fragment. fragment < 16 * heap.groups)
-  list (suc n) from few = All-cons (λ fragment. fragment < 16 * heap.groups) from (range_with_len (from + 1) n) (omega arith) (list n (from + 1) (omega arith))
 
 -- every word of the opening leads within the heap
 opening_leads : (heap : Heap) → IsHeap heap → (a : Address) → InTable heap a → FoundPointsWithin heap a (opening_word heap a)
@@ -146,8 +141,8 @@ opening_leads heap limits Spot there = tt
 opening_leads heap limits (Control group) there = tt
 opening_leads heap limits (Spine half offset) there = omega (arith, limits.some_group)
 opening_leads heap limits (Word f part) there =
-    elim (leb_tells (suc f) 11) as (λ _. IsWithinHeap heap (pointer_in part (opening_word heap (Word f part)))) [
-      | inl board_ ↦ rw board_.0 (record_leads_within_heap heap board_name 32 (board heap) f part (omega arith) (omega arith) (omega arith) (omega (arith, limits.some_group)) (omega (arith, limits.groups_fit)) (board_within heap limits.some_group))
+    elim (leb_tells (suc f) (board_fragments heap)) as (λ _. IsWithinHeap heap (pointer_in part (opening_word heap (Word f part)))) [
+      | inl board_ ↦ rw board_.0 (record_leads_within_heap heap board_name (board_fields heap) (board heap) f part (omega arith) (omega arith) (omega (arith, limits.board_fits)) (omega (arith, limits.some_group)) (omega (arith, limits.groups_fit)) (board_within heap limits))
       | inr past ↦ rw past.0 (zero_leads_within_heap heap part)
     ]
 

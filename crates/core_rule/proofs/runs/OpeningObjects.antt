@@ -1,14 +1,18 @@
 -- The board is the one object when a heap opens.
 use Rattle.std.specs.Int.{bit_at}
 use Rattle.std.proofs.Common.{◌≡◌, ◌^◌, ℕ, ◌*◌, ◌/◌, ◌%◌, ◌<◌, ◌≤◌, inl, inr, true, false, List, [], ◌∷◌, length, nat_lt, replicate, slice_get, Some, IsSome, refl, sym, ap, ◌∙◌, subst, arith}
-use Rattle.std.proofs.lemmas.Bool.{cases_lt, false≢true}
-use Rattle.std.proofs.lemmas.Bool.Decides.{nat_tests, eqb_tells}
+use Rattle.std.proofs.lemmas.Bool.{cases_lt, lt-ltb, false≢true}
+use Rattle.std.proofs.lemmas.Bool.Decides.{eqb_tells}
 use Rattle.std.proofs.lemmas.List.{get_or_past, length-replicate}
+use Rattle.std.proofs.lemmas.List.FromFn.{length-range_with_len}
 use Rattle.std.proofs.lemmas.Nat.Bits.{bit_at-zero}
 use Rattle.core_rule.proofs.Terms.{born_at, marked_at, scanned_at, taken_at, Heap, Id, Board, Made, absent_graph_seat, graph_seat, IsMade, opening, opening_graph_seat, fresh}
 use Rattle.core_rule.proofs.Terms.{unset, Control, Word, at, InTable, no_spot, White, fragment_at, id_at, object_number, object_head, Marks, Bits, FitsName, AreMade, IsKept}
 use Rattle.core_rule.proofs.Terms.{NamesKept, KeptObject, Objects, node_at, cells_at, Kept, taken_bit, born_bit}
 use Rattle.heap_words.specs.declared.spot.Spot.{Spot}
+use Rattle.heap_model.specs.Board.{board_fields, board_fragments}
+use Rattle.heap_model.specs.Heap.{IsHeap}
+use Rattle.heap_model.specs.Needs.{record_fragments}
 use Rattle.heap_model.specs.declared.graph.cell.Cell.{Cell}
 use Rattle.heap_model.specs.graph.Graph.{GraphSeat}
 use Rattle.core_machine.specs.declared.table.address.Address.{Address}
@@ -16,7 +20,7 @@ use Rattle.core_machine.specs.machine.Opening.{board, board_name, opening_word}
 use Rattle.heap_model.proofs.graph_changes.GraphRegisters.{opening_graph_has_opening_seats}
 use Rattle.core_rule.proofs.objects.Newborn.{object_word_is_fresh}
 use Rattle.core_rule.proofs.objects.ObjectsGrowth.{fresh_cell_is_unset}
-use Rattle.core_rule.proofs.runs.OpeningOwners.{opening_owner, opening_owner_cases, beyond_board_is_free, board_fragment_is_number, board_bit_is_taken_bit, board_bit_is_born_bit, board_bit_is_unmarked}
+use Rattle.core_rule.proofs.runs.OpeningOwners.{opening_owner, opening_owner_cases, beyond_board_is_free, board_fragment_is_number, opening_keeps_board, board_bit_is_taken_bit, board_bit_is_born_bit, board_bit_is_unmarked}
 
 -- the board is all that was made
 abbrev pub opening_made : List Id
@@ -50,31 +54,31 @@ opening_are_made heap = record {
   fit = λ i below. let none : 0 ≡ i = omega arith in subst (λ x. FitsName (id_at opening_made x)) none tt;
 }
 
-module _ (heap : Heap) (words : List ℕ) (some : 1 ≤ heap.groups) (open_words : (address : Address) → InTable heap address → at heap words address ≡ opening_word heap address) where
-  group_taken : (f : ℕ) → f < 16 * heap.groups → bit_at (opening_word heap (Control (f / 16))) (taken_at f) ≡ taken_bit (opening_owner f)
-  group_taken f within = elim (eqb_tells (f / 16) 0) as (λ _. bit_at (opening_word heap (Control (f / 16))) (taken_at f) ≡ taken_bit (opening_owner f)) [
+module _ (heap : Heap) (words : List ℕ) (limits : IsHeap heap) (open_words : (address : Address) → InTable heap address → at heap words address ≡ opening_word heap address) where
+  group_taken : (f : ℕ) → f < 16 * heap.groups → bit_at (opening_word heap (Control (f / 16))) (taken_at f) ≡ taken_bit (opening_owner heap f)
+  group_taken f within = elim (eqb_tells (f / 16) 0) as (λ _. bit_at (opening_word heap (Control (f / 16))) (taken_at f) ≡ taken_bit (opening_owner heap f)) [
     | inl first ↦ let position : f % 16 ≡ f = omega (arith, first.1) in rw (first.0, position) (board_bit_is_taken_bit heap f (omega (arith, first.1)))
-    | inr later ↦ rw (later.0, beyond_board_is_free f (omega (arith, later.1))) (bit_at-zero (f % 16))
+    | inr later ↦ rw (later.0, beyond_board_is_free heap f (omega (arith, later.1, limits.board_fits))) (bit_at-zero (f % 16))
   ]
 
-  group_born : (f : ℕ) → f < 16 * heap.groups → bit_at (opening_word heap (Control (f / 16))) (born_at f) ≡ born_bit (opening_owner f)
-  group_born f within = elim (eqb_tells (f / 16) 0) as (λ _. bit_at (opening_word heap (Control (f / 16))) (born_at f) ≡ born_bit (opening_owner f)) [
-    | inl first ↦ let position : f % 16 ≡ f = omega (arith, first.1) in rw (first.0, position) (board_bit_is_born_bit heap f (omega (arith, first.1)))
-    | inr later ↦ rw (later.0, beyond_board_is_free f (omega (arith, later.1))) (bit_at-zero (born_at f))
+  group_born : (f : ℕ) → f < 16 * heap.groups → bit_at (opening_word heap (Control (f / 16))) (born_at f) ≡ born_bit (opening_owner heap f)
+  group_born f within = elim (eqb_tells (f / 16) 0) as (λ _. bit_at (opening_word heap (Control (f / 16))) (born_at f) ≡ born_bit (opening_owner heap f)) [
+    | inl first ↦ let position : f % 16 ≡ f = omega (arith, first.1) in rw (first.0, position) (board_bit_is_born_bit heap limits f)
+    | inr later ↦ rw (later.0, beyond_board_is_free heap f (omega (arith, later.1, limits.board_fits))) (bit_at-zero (born_at f))
   ]
 
   -- the control words have the bits of the owners
-  pub opening_bits : Bits heap words opening_owner
+  pub opening_bits : Bits heap words (opening_owner heap)
   opening_bits = record {
     taken = λ f within. rw (open_words (Control (f / 16)) (omega arith)) (group_taken f within);
     born = λ f within. rw (open_words (Control (f / 16)) (omega arith)) (group_born f within);
-    outside = λ f past. beyond_board_is_free f (omega (arith, past, some));
+    outside = λ f past. beyond_board_is_free heap f (omega (arith, past, limits.some_group, limits.board_fits));
   }
 
   -- nothing is marked or scanned
   plain : (g i : ℕ) → 32 ≤ i → bit_at (opening_word heap (Control g)) i ≡ 0
   plain g i past = elim (eqb_tells g 0) as (λ _. bit_at (opening_word heap (Control g)) i ≡ 0) [
-    | inl first ↦ rw first.0 (board_bit_is_unmarked heap i past)
+    | inl first ↦ rw first.0 (board_bit_is_unmarked heap limits i past)
     | inr later ↦ rw later.0 (bit_at-zero i)
   ]
 
@@ -85,31 +89,35 @@ module _ (heap : Heap) (words : List ℕ) (some : 1 ≤ heap.groups) (open_words
     outside = λ f past. refl;
   }
 
-  board_kept : KeptObject heap words opening_owner (object_head opening_made (opening_fragments heap)) 0 Board (fresh false 32) (board heap) no_spot
+  on_board : (k : ℕ) → k < length (board heap) → k < board_fragments heap
+  on_board k below = subst (λ n. k < n) (length-range_with_len 0 (board_fragments heap)) below
+
+  board_kept : KeptObject heap words (opening_owner heap) (object_head opening_made (opening_fragments heap)) 0 Board (fresh false (board_fields heap)) (board heap) no_spot
   board_kept = record {
     sized = (omega arith, omega arith);
     whole = refl;
-    owned = λ k below. let here : k < 11 = omega arith in rw (board_fragment_is_number heap k here) (opening_owner_cases (λ o. o ≡ Kept 0 k) k (λ less. refl) (λ past. absurd (omega (arith, here, past))));
+    owned = λ k below. let here : k < board_fragments heap = on_board k below in rw (board_fragment_is_number heap k here) (opening_owner_cases heap (λ o. o ≡ Kept 0 k) k (λ less. refl) (λ past. absurd (omega (arith, here, past))));
     stored = λ k part below fits.
-        let here : k < 11 = omega arith in
-        rw (board_fragment_is_number heap k here, open_words (Word k part) (omega (arith, here, some), fits))
-        (let newborn = object_word_is_fresh (object_head opening_made (opening_fragments heap)) board_name false 32 no_spot (board heap) k part in
-        let first : nat_lt k 11 ≡ true = grind (arith, nat_tests, here) in rw first (sym newborn));
+        let here : k < board_fragments heap = on_board k below in
+        rw (board_fragment_is_number heap k here, open_words (Word k part) (omega (arith, here, limits.some_group, limits.board_fits), fits))
+        (let newborn = object_word_is_fresh (object_head opening_made (opening_fragments heap)) board_name false (board_fields heap) no_spot (board heap) k part in
+        let first : nat_lt k (board_fragments heap) ≡ true = lt-ltb k (board_fragments heap) here in rw first (sym newborn));
     listed = λ j none. absurd (omega (arith, none));
   }
 
   -- it has the words of a record that was never set
-  pub opening_objects : Objects heap words (opening heap) opening_made opening_owner (opening_fragments heap) opening_spines
+  pub opening_objects : Objects heap words (opening heap) opening_made (opening_owner heap) (opening_fragments heap) opening_spines
   opening_objects = record {
     kept = λ i below is. let none : 0 ≡ i = omega arith in
-        subst (λ x. KeptObject heap words opening_owner (object_head opening_made (opening_fragments heap)) x (id_at opening_made x) (node_at (opening heap) opening_made x) (opening_fragments heap x) (opening_spines x)) none board_kept;
+        subst (λ x. KeptObject heap words (opening_owner heap) (object_head opening_made (opening_fragments heap)) x (id_at opening_made x) (node_at (opening heap) opening_made x) (opening_fragments heap x) (opening_spines x)) none board_kept;
     named = λ i j below is cell there. let none : i ≡ 0 = omega arith in
-        let blank : cell ≡ unset = fresh_cell_is_unset 32 j cell (subst (λ x. slice_get (cells_at (opening heap) opening_made x) j ≡ Some cell) none there) in
-        subst (λ (c : Cell). NamesKept opening_made opening_owner (opening_fragments heap) c.value × (c.stamp < 2 ^ 32)) (sym blank) (tt, omega arith);
-    back = λ f i k. opening_owner_cases (λ o. o ≡ Kept i k → (i < length opening_made) × IsKept opening_owner (opening_fragments heap) i × (k < length (opening_fragments heap i)) × (f ≡ fragment_at (opening_fragments heap i) k)) f
+        let blank : cell ≡ unset = fresh_cell_is_unset (board_fields heap) j cell (subst (λ x. slice_get (cells_at (opening heap) opening_made x) j ≡ Some cell) none there) in
+        subst (λ (c : Cell). NamesKept opening_made (opening_owner heap) (opening_fragments heap) c.value × (c.stamp < 2 ^ 32)) (sym blank) (tt, omega arith);
+    back = λ f i k. opening_owner_cases heap (λ o. o ≡ Kept i k → (i < length opening_made) × IsKept (opening_owner heap) (opening_fragments heap) i × (k < length (opening_fragments heap i)) × (f ≡ fragment_at (opening_fragments heap i) k)) f
         (λ below is. let object : 0 ≡ i = cc in let position : f ≡ k = cc in
-        subst (λ x. (x < length opening_made) × IsKept opening_owner (opening_fragments heap) x × (k < length (opening_fragments heap x)) × (f ≡ fragment_at (opening_fragments heap x) k)) object
-        (omega arith, refl, omega (arith, position, below), position ∙ sym (board_fragment_is_number heap k (omega (arith, position, below)))))
+        subst (λ x. (x < length opening_made) × IsKept (opening_owner heap) (opening_fragments heap) x × (k < length (opening_fragments heap x)) × (f ≡ fragment_at (opening_fragments heap x) k)) object
+        (let here : k < board_fragments heap = omega (arith, position, below) in
+        (omega arith, opening_keeps_board heap, subst (λ n. k < n) (sym (length-range_with_len 0 (board_fragments heap))) here, position ∙ sym (board_fragment_is_number heap k here))))
         (λ past is. absurd (cc));
-    board = refl;
+    board = board_fragment_is_number heap 0 (omega arith);
   }

@@ -1,76 +1,82 @@
 -- Whose the fragments are when a heap opens: the board's are its own, the others nobody's.
 use Rattle.std.specs.Int.{bit_at}
-use Rattle.std.proofs.Common.{◌≡◌, ℕ, suc, ◌+◌, ◌-◌, ◌*◌, ◌<◌, ◌≤◌, nat_lt, if◌then◌else◌, inl, inr, [], refl, sym, ap, ◌∙◌, subst, arith}
-use Rattle.std.proofs.lemmas.Bool.{cases_lt}
-use Rattle.std.proofs.lemmas.Bool.Decides.{nat_tests}
-use Rattle.std.proofs.lemmas.Nat.Bits.{bit_at_above}
+use Rattle.std.proofs.Common.{◌≡◌, ℕ, ◌+◌, ◌-◌, ◌*◌, ◌^◌, ◌<◌, ◌≤◌, nat_lt, if◌then◌else◌, inl, inr, [], refl, sym, ap, ◌∙◌, subst, arith}
+use Rattle.std.proofs.lemmas.Bool.{cases_lt, lt-ltb, le-ltb}
+use Rattle.std.proofs.lemmas.List.FromFn.{get_or-range_with_len}
+use Rattle.std.proofs.lemmas.Nat.Bits.{bit_at_above, bit_at_ones, bit_at_ones_above, bit_at_cat_low, bit_at_cat_high}
+use Rattle.heap_model.specs.Board.{board_fragments}
+use Rattle.heap_model.specs.Heap.{IsHeap}
 use Rattle.core_rule.proofs.Terms.{Heap, sum_upto, fragment_at, AreUsed, Owner, Free, Kept, IsSeated, OwnersStand, taken_bit, born_bit}
-use Rattle.core_machine.specs.machine.Opening.{board, board_group}
+use Rattle.core_machine.specs.machine.Opening.{board, board_bits, board_group}
+use Rattle.core_machine.proofs.machine_lemmas.BoardPlace.{board_bits_fit_group}
 use Rattle.core_machine.proofs.table_lemmas.Free.{sum_of_nothing_is_zero}
 use Rattle.core_rule.proofs.lists.SumLemmas.{sum_in_two_summands, sum_ones}
 
--- the first eleven fragments are the board's
-abbrev pub opening_owner : ℕ → Owner
-opening_owner f = if nat_lt f 11 then Kept 0 f else Free
+-- the first fragments are the board's
+abbrev pub opening_owner : Heap → ℕ → Owner
+opening_owner heap f = if nat_lt f (board_fragments heap) then Kept 0 f else Free
 
-boards : (f : ℕ) → f < 11 → opening_owner f ≡ Kept 0 f
-boards f below = grind (arith, nat_tests, below)
+boards : (heap : Heap) (f : ℕ) → f < board_fragments heap → opening_owner heap f ≡ Kept 0 f
+boards heap f below = rw (lt-ltb f (board_fragments heap) below) refl
 
-pub beyond_board_is_free : (f : ℕ) → 11 ≤ f → opening_owner f ≡ Free
-beyond_board_is_free f past = grind (arith, nat_tests, past)
+pub beyond_board_is_free : (heap : Heap) (f : ℕ) → board_fragments heap ≤ f → opening_owner heap f ≡ Free
+beyond_board_is_free heap f past = rw (le-ltb f (board_fragments heap) past) refl
 
-pub opening_owner_cases : (P : Owner → Type 0) (f : ℕ) → (f < 11 → P (Kept 0 f)) → (11 ≤ f → P Free) → P (opening_owner f)
-opening_owner_cases P f kept free = elim (cases_lt f 11) [
-  | inl below ↦ subst P (sym (boards f below)) (kept below)
-  | inr past ↦ subst P (sym (beyond_board_is_free f past)) (free past)
+pub opening_owner_cases : (heap : Heap) (P : Owner → Type 0) (f : ℕ) → (f < board_fragments heap → P (Kept 0 f)) → (board_fragments heap ≤ f → P Free) → P (opening_owner heap f)
+opening_owner_cases heap P f kept free = elim (cases_lt f (board_fragments heap)) [
+  | inl below ↦ subst P (sym (boards heap f below)) (kept below)
+  | inr past ↦ subst P (sym (beyond_board_is_free heap f past)) (free past)
 ]
 
 -- no seat has a fragment, and the first is the board's first
-pub opening_owners_stand : (seats : ℕ) → OwnersStand seats opening_owner
-opening_owners_stand seats = record { seated = λ f. opening_owner_cases (IsSeated seats) f (λ below. tt) (λ past. tt); board = (refl, refl) }
+pub opening_owners_stand : (heap : Heap) → OwnersStand heap.seats (opening_owner heap)
+opening_owners_stand heap = record {
+  seated = λ f. opening_owner_cases heap (IsSeated heap.seats) f (λ below. tt) (λ past. tt);
+  board = opening_owner_cases heap IsBoards 0 (λ below. (refl, refl)) (λ past. tt);
+}
 
--- one more below the bound
-below_more : (P : ℕ → Type 0) (n : ℕ) → ((f : ℕ) → f < n → P f) → P n → (f : ℕ) → f < suc n → P f
-below_more P n rest last f below = elim (cases_lt f n) [
-  | inl less ↦ rest f less
-  | inr past ↦ let e : n ≡ f = omega arith in subst P e last
-]
+pub board_fragment_is_number : (heap : Heap) (k : ℕ) → k < board_fragments heap → fragment_at (board heap) k ≡ k
+board_fragment_is_number heap k below = get_or-range_with_len 0 (board_fragments heap) k 0 below ∙ omega arith
 
-below_none : (P : ℕ → Type 0) (f : ℕ) → f < 0 → P f
-below_none P f below = absurd (omega arith)
+-- the first of them is kept
+pub opening_keeps_board : (heap : Heap) → opening_owner heap (fragment_at (board heap) 0) ≡ Kept 0 0
+opening_keeps_board heap =
+    let first : 0 < board_fragments heap = omega arith in
+    ap (opening_owner heap) (board_fragment_is_number heap 0 first) ∙ boards heap 0 first
 
--- what holds of the first eleven numbers
-first_eleven : (P : ℕ → Type 0) → P 0 → P 1 → P 2 → P 3 → P 4 → P 5 → P 6 → P 7 → P 8 → P 9 → P 10 → (f : ℕ) → f < 11 → P f
-first_eleven P a b c d e g h i j k l =
-    below_more P 10 (below_more P 9 (below_more P 8 (below_more P 7 (below_more P 6 (below_more P 5 (below_more P 4 (below_more P 3 (below_more P 2
-    (below_more P 1 (below_more P 0 (below_none P) a) b) c) d) e) g) h) i) j) k) l
+-- whether a fragment is one of the board's first ones
+bit_of_board : (heap : Heap) (f : ℕ) (bit : Owner → ℕ) → bit Free ≡ 0 → bit (Kept 0 f) ≡ 1 → bit_at (board_bits heap) f ≡ bit (opening_owner heap f)
+bit_of_board heap f bit none one = opening_owner_cases heap (λ o. bit_at (board_bits heap) f ≡ bit o) f
+    (λ below. bit_at_ones (board_fragments heap) f below ∙ sym one) (λ past. bit_at_ones_above (board_fragments heap) f past ∙ sym none)
 
--- the rest of the first group
-first_sixteen : (P : ℕ → Type 0) → ((f : ℕ) → f < 11 → P f) → P 11 → P 12 → P 13 → P 14 → P 15 → (f : ℕ) → f < 16 → P f
-first_sixteen P rest a b c d e =
-    below_more P 15 (below_more P 14 (below_more P 13 (below_more P 12 (below_more P 11 rest a) b) c) d) e
+-- the group's word has the board's bits twice
+group_is_two_masks : (heap : Heap) → board_group heap ≡ board_bits heap * 2 ^ 16 + board_bits heap
+group_is_two_masks heap = omega arith
 
-pub board_fragment_is_number : (heap : Heap) (k : ℕ) → k < 11 → fragment_at (board heap) k ≡ k
-board_fragment_is_number heap = first_eleven (λ k. fragment_at (board heap) k ≡ k) refl refl refl refl refl refl refl refl refl refl refl
+pub board_bit_is_taken_bit : (heap : Heap) (f : ℕ) → f < 16 → bit_at (board_group heap) f ≡ taken_bit (opening_owner heap f)
+board_bit_is_taken_bit heap f within =
+    ap (λ (word : ℕ). bit_at word f) (group_is_two_masks heap) ∙ bit_at_cat_low (board_bits heap) 16 (board_bits heap) f within ∙ bit_of_board heap f taken_bit refl refl
 
-pub board_bit_is_taken_bit : (heap : Heap) (f : ℕ) → f < 16 → bit_at (board_group heap) f ≡ taken_bit (opening_owner f)
-board_bit_is_taken_bit heap = first_sixteen (λ f. bit_at (board_group heap) f ≡ taken_bit (opening_owner f))
-    (first_eleven (λ f. bit_at (board_group heap) f ≡ taken_bit (opening_owner f)) refl refl refl refl refl refl refl refl refl refl refl) refl refl refl refl refl
-
-pub board_bit_is_born_bit : (heap : Heap) (f : ℕ) → f < 16 → bit_at (board_group heap) (16 + f) ≡ born_bit (opening_owner f)
-board_bit_is_born_bit heap = first_sixteen (λ f. bit_at (board_group heap) (16 + f) ≡ born_bit (opening_owner f))
-    (first_eleven (λ f. bit_at (board_group heap) (16 + f) ≡ born_bit (opening_owner f)) refl refl refl refl refl refl refl refl refl refl refl) refl refl refl refl refl
+pub board_bit_is_born_bit : (heap : Heap) → IsHeap heap → (f : ℕ) → bit_at (board_group heap) (16 + f) ≡ born_bit (opening_owner heap f)
+board_bit_is_born_bit heap limits f =
+    let place : 16 + f - 16 ≡ f = omega arith in
+    ap (λ (word : ℕ). bit_at word (16 + f)) (group_is_two_masks heap)
+    ∙ bit_at_cat_high (board_bits heap) 16 (board_bits heap) (16 + f) (board_bits_fit_group heap limits) (omega arith)
+    ∙ ap (bit_at (board_bits heap)) place ∙ bit_of_board heap f born_bit refl refl
 
 -- none of the group is marked or scanned
-pub board_bit_is_unmarked : (heap : Heap) (i : ℕ) → 32 ≤ i → bit_at (board_group heap) i ≡ 0
-board_bit_is_unmarked heap i past = bit_at_above (board_group heap) 32 i (omega arith) past
+pub board_bit_is_unmarked : (heap : Heap) → IsHeap heap → (i : ℕ) → 32 ≤ i → bit_at (board_group heap) i ≡ 0
+board_bit_is_unmarked heap limits i past = bit_at_above (board_group heap) 32 i (omega (arith, board_bits_fit_group heap limits)) past
 
--- eleven are in use
-pub opening_used : (heap : Heap) → 1 ≤ heap.groups → AreUsed heap opening_owner []
-opening_used heap some =
-    let summands : 16 * heap.groups ≡ 11 + (16 * heap.groups - 11) = omega arith in
-    let all = sum_in_two_summands 11 (16 * heap.groups - 11) (λ f. taken_bit (opening_owner f)) in
-    let kept = sum_ones 11 (λ f. taken_bit (opening_owner f)) (λ f below. ap taken_bit (boards f below)) in
-    let free = sum_of_nothing_is_zero (16 * heap.groups - 11) (λ f. taken_bit (opening_owner (11 + f))) (λ f below. ap taken_bit (beyond_board_is_free (11 + f) (omega arith))) in
-    let sums : sum_upto (16 * heap.groups) (λ f. taken_bit (opening_owner f)) ≡ 11 = ap (λ n. sum_upto n (λ f. taken_bit (opening_owner f))) summands ∙ omega (arith, all, kept, free) in
-    omega (arith, sums)
+-- the board's are in use
+pub opening_used : (heap : Heap) → IsHeap heap → AreUsed heap (opening_owner heap) []
+opening_used heap limits = used (board_fragments heap) refl (omega (arith, limits.some_group, limits.board_fits))
+  where
+    used : (count : ℕ) → count ≡ board_fragments heap → count ≤ 16 * heap.groups → AreUsed heap (opening_owner heap) []
+    used count is few =
+        let summands : 16 * heap.groups ≡ count + (16 * heap.groups - count) = omega arith in
+        let all = sum_in_two_summands count (16 * heap.groups - count) (λ f. taken_bit (opening_owner heap f)) in
+        let kept = sum_ones count (λ f. taken_bit (opening_owner heap f)) (λ f below. ap taken_bit (boards heap f (omega (arith, is, below)))) in
+        let free = sum_of_nothing_is_zero (16 * heap.groups - count) (λ f. taken_bit (opening_owner heap (count + f))) (λ f below. ap taken_bit (beyond_board_is_free heap (count + f) (omega (arith, is)))) in
+        let sums : sum_upto (16 * heap.groups) (λ f. taken_bit (opening_owner heap f)) ≡ count = ap (λ n. sum_upto n (λ f. taken_bit (opening_owner heap f))) summands ∙ omega (arith, all, kept, free) in
+        omega (arith, sums, is)

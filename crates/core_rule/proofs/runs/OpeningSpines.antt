@@ -29,13 +29,13 @@ module _ (heap : Heap) (words : List ℕ) (spot : at heap words Spot ≡ opening
   opening_next : next_spine heap words ≡ no_spot
   opening_next = ap spot_in spot ∙ spot_in-word no_spot record { half_within = omega arith; offset_within = omega arith }
 
-  pub opening_spines_stand : (seats : ℕ) → SpinesStand heap words seats 1 (node_at (opening heap) opening_made) opening_owner (opening_fragments heap) opening_spines opening_spine_owner
+  pub opening_spines_stand : (seats : ℕ) → SpinesStand heap words seats 1 (node_at (opening heap) opening_made) (opening_owner heap) (opening_fragments heap) opening_spines opening_spine_owner
   opening_spines_stand seats = record {
     spot = spot ∙ ap spot_word (sym opening_next);
     parties = λ half offset party k is. absurd (cc);
     kept = λ i j below is within. absurd (no_word i j below within);
     back = λ half offset i j is. absurd (cc);
-    tells = λ f i k is. absurd (opening_owner_cases (λ o. o ≢ Dead i k) f (λ less e. cc) (λ past e. cc) is);
+    tells = λ f i k is. absurd (opening_owner_cases heap (λ o. o ≢ Dead i k) f (λ less e. cc) (λ past e. cc) is);
   }
     where
       no_word : (i j : ℕ) → i < 1 → j < spine_words_of (node_at (opening heap) opening_made i) → ⊥
@@ -48,7 +48,7 @@ abbrev pub opening_book : Heap → Book
 opening_book heap = record {
   history = [];
   made = opening_made;
-  owner = opening_owner;
+  owner = opening_owner heap;
   fragments = opening_fragments heap;
   spines = opening_spines;
   spine_owner = opening_spine_owner;
@@ -63,12 +63,12 @@ module _ (heap : Heap) (state : State) (seats : (number : ℕ) → number < heap
       (λ r below. subst (λ (s : Seat). weight s s.point ≡ 0) (sym (seats r below)) (none r))
 
   -- the board has none, and nothing is to be freed
-  none_kept : (weight : ℕ → ℕ) → weight 0 ≡ 0 → kept_sum heap weight opening_owner ≡ 0
-  none_kept weight none = sum_of_nothing_is_zero (16 * heap.groups) (λ f. kept_weight weight (opening_owner f))
-      (λ f below. opening_owner_cases (λ o. kept_weight weight o ≡ 0) f (λ less. ap (λ n. if f == 0 then n else 0) none ∙ zero_either_way (f == 0)) (λ past. refl))
+  none_kept : (weight : ℕ → ℕ) → weight 0 ≡ 0 → kept_sum heap weight (opening_owner heap) ≡ 0
+  none_kept weight none = sum_of_nothing_is_zero (16 * heap.groups) (λ f. kept_weight weight (opening_owner heap f))
+      (λ f below. opening_owner_cases heap (λ o. kept_weight weight o ≡ 0) f (λ less. ap (λ n. if f == 0 then n else 0) none ∙ zero_either_way (f == 0)) (λ past. refl))
 
-  none_dead : (weight : ℕ → ℕ) → dead_sum heap weight opening_owner ≡ 0
-  none_dead weight = sum_of_nothing_is_zero (16 * heap.groups) (λ f. dead_weight weight (opening_owner f)) (λ f below. opening_owner_cases (λ o. dead_weight weight o ≡ 0) f (λ less. refl) (λ past. refl))
+  none_dead : (weight : ℕ → ℕ) → dead_sum heap weight (opening_owner heap) ≡ 0
+  none_dead weight = sum_of_nothing_is_zero (16 * heap.groups) (λ f. dead_weight weight (opening_owner heap f)) (λ f below. opening_owner_cases heap (λ o. dead_weight weight o ≡ 0) f (λ less. refl) (λ past. refl))
 
   module _ (spot : at heap state.words Spot ≡ opening_word heap Spot) (done : state.collector ≡ opening_collector) where
     next : next_spine heap state.words ≡ no_spot
@@ -94,7 +94,7 @@ module _ (heap : Heap) (state : State) (seats : (number : ℕ) → number < heap
           low = omega (arith, given, kept, dead, returns);
           returned = omega (arith, dead, returns);
           early = λ between. refl;
-          counts = subst (λ (c : Collector). SweepCounts (words_of_object (nodes_in heap (opening_book heap))) opening_owner c.stage) (sym done) tt;
+          counts = subst (λ (c : Collector). SweepCounts (words_of_object (nodes_in heap (opening_book heap))) (opening_owner heap) c.stage) (sym done) tt;
         }
 
     -- and no spine stands anywhere
@@ -105,7 +105,7 @@ module _ (heap : Heap) (state : State) (seats : (number : ℕ) → number < heap
       arrays = λ i below is an_array. absurd (no_array i below an_array);
       hands = λ number below has. absurd (subst (λ (s : Seat). ¬ HasPlace s s.point) (sym (seats number below)) (λ none. none) has);
       swung = λ copies. absurd (subst (λ (c : Collector). c.phase % cycle_phases ≢ copying_phase) (sym done) (λ e. omega (arith, e)) copies);
-      copies = subst (λ (c : Collector). WhileCopying (CopyingStands (nodes_in heap (opening_book heap)) opening_made opening_owner (λ f. White) (opening_fragments heap) opening_spines (next_spine heap state.words).half) c.stage)
+      copies = subst (λ (c : Collector). WhileCopying (CopyingStands (nodes_in heap (opening_book heap)) opening_made (opening_owner heap) (λ f. White) (opening_fragments heap) opening_spines (next_spine heap state.words).half) c.stage)
           (sym done) tt;
       copy = subst (λ (c : Collector). CopyInHand heap state.words opening_spine_owner c.stage) (sym done) record { placed = tt; own = λ half offset j is. absurd (cc); copied = tt };
     }

@@ -25,10 +25,10 @@ use Rattle.heap_model.proofs.graph_changes.GraphRegisters.{opening_graph_has_ope
 use Rattle.core_rule.proofs.runs.OpeningObjects.{opening_made, opening_fragments, opening_are_made, opening_bits, opening_marks, opening_objects}
 pub use Rattle.core_rule.proofs.runs.OpeningSpines.{opening_book}
 use Rattle.core_rule.proofs.runs.OpeningSpines.{opening_spine_in_hand, opening_spines_stand, opening_budgets_stand, opening_halves_stand}
-use Rattle.core_rule.proofs.runs.OpeningOwners.{opening_owner, opening_owner_cases, opening_owners_stand, opening_used}
+use Rattle.core_rule.proofs.runs.OpeningOwners.{opening_owner, opening_owner_cases, opening_owners_stand, opening_used, board_fragment_is_number, opening_keeps_board}
 
 abbrev Now : Heap → Register → Value → Type 0
-Now heap held value = regs.HoldsValue opening_made opening_owner (opening_fragments heap) held value
+Now heap held value = regs.HoldsValue opening_made (opening_owner heap) (opening_fragments heap) held value
 
 nil_registers : (heap : Heap) (n r : ℕ) → Now heap (get_or (replicate n registers.Nil) r registers.Nil) (get_or (replicate n unset) r unset).value
 nil_registers heap zero r = refl
@@ -36,10 +36,10 @@ nil_registers heap (suc n) zero = refl
 nil_registers heap (suc n) (suc r) = nil_registers heap n r
 
 opening_held : (heap : Heap) (r : ℕ) → Now heap (get_or (registers.Object 0 ids.Board ∷ replicate 15 registers.Nil) r registers.Nil) (get_or (unseen (values.Object ids.Board) ∷ replicate 15 unset) r unset).value
-opening_held heap zero = (refl, (omega arith, refl), refl)
+opening_held heap zero = (refl, (omega arith, opening_keeps_board heap), sym (board_fragment_is_number heap 0 (omega arith)))
 opening_held heap (suc r) = nil_registers heap 15 r
 
-opening_registers : (heap : Heap) (number : ℕ) → number < heap.seats → Registers (opening heap) opening_made opening_owner (opening_fragments heap) number (opening_seat heap number).registers points.Idle 0
+opening_registers : (heap : Heap) (number : ℕ) → number < heap.seats → Registers (opening heap) opening_made (opening_owner heap) (opening_fragments heap) number (opening_seat heap number).registers points.Idle 0
 opening_registers heap number below r fresh = subst (λ (p : GraphSeat). Now heap (get_or (opening_seat heap number).registers r registers.Nil) (get_or p.registers r unset).value) (sym (opening_graph_has_opening_seats heap number below)) (opening_held heap r)
 
 -- no seat has answered
@@ -52,8 +52,8 @@ opening_seat_stands : (heap : Heap) (words : List ℕ) (number : ℕ) → number
 opening_seat_stands heap words number below none_answered = record {
   own = record {
     holding = record {
-      held = λ f. opening_owner_cases (λ o. 0 ≡ holds_bit number o) f (λ less. refl) (λ past. refl);
-      borne = λ f. opening_owner_cases (λ o. 0 ≡ 0 + bears_bit number o) f (λ less. refl) (λ past. refl);
+      held = λ f. opening_owner_cases heap (λ o. 0 ≡ holds_bit number o) f (λ less. refl) (λ past. refl);
+      borne = λ f. opening_owner_cases heap (λ o. 0 ≡ 0 + bears_bit number o) f (λ less. refl) (λ past. refl);
     };
     stored = λ u none. absurd (omega (arith, none));
     together = together_where_empty heap (opening_seat heap number).cursor 0 [] [] refl refl;
@@ -70,7 +70,7 @@ opening_seat_stands heap words number below none_answered = record {
       unborn = refl;
     };
     began = record { earlier = omega arith; unanswered = λ busy. refl };
-    gathers = gathers_right_untried heap opening_owner number [] (opening_seat heap number).cursor;
+    gathers = gathers_right_untried heap (opening_owner heap) number [] (opening_seat heap number).cursor;
     used = tt;
   };
   cycle = record {
@@ -89,16 +89,16 @@ opening_rule : (heap : Heap) (state : State) → IsHeap heap → IsMachine heap 
 opening_rule heap state fits machine opens = record {
   machine = machine;
   heap_stands = record {
-    control_words = opening_bits heap state.words fits.some_group opens.words_open;
-    owners = opening_owners_stand heap.seats;
+    control_words = opening_bits heap state.words fits opens.words_open;
+    owners = opening_owners_stand heap;
     ids = opening_are_made heap;
-    objects = opening_objects heap state.words fits.some_group opens.words_open;
+    objects = opening_objects heap state.words fits opens.words_open;
     spines = opening_spines_stand heap state.words (opens.words_open Spot tt) heap.seats;
-    used = opening_used heap fits.some_group;
+    used = opening_used heap fits;
     legal = record { objects = tt; space = tt };
     cycle = record {
       word = opens.words_open Phase tt;
-      marks = opening_marks heap state.words fits.some_group opens.words_open;
+      marks = opening_marks heap state.words fits opens.words_open;
       coloured = record {
         rest = λ rests f. refl;
         early = λ one f black. absurd (cc);
@@ -114,13 +114,13 @@ opening_rule heap state fits machine opens = record {
   collector_stands = subst (λ (c : Collector). CollectorAgrees heap c []) (sym opens.nothing_done)
       record { log = refl; phase_told = refl; looked = λ number less. absurd (omega (arith, less)) };
   marks_stand = record {
-    heap_marks = subst (λ (c : Collector). MarkingStands heap state.words opening_owner (λ f. White) (opening_fragments heap) c.phase c.stage) (sym opens.nothing_done) record {
+    heap_marks = subst (λ (c : Collector). MarkingStands heap state.words (opening_owner heap) (λ f. White) (opening_fragments heap) c.phase c.stage) (sym opens.nothing_done) record {
       grey = λ f grey. absurd (cc);
       scan = tt;
       few = tt;
       pass = tt;
       sweep_stands = tt;
-      alive = λ goes_on f i k. opening_owner_cases (λ o. o ≢ Dead i k) f (λ less is. cc) (λ past is. cc);
+      alive = λ goes_on f i k. opening_owner_cases heap (λ o. o ≢ Dead i k) f (λ less is. cc) (λ past is. cc);
       after = λ settled. absurd (never settled);
     };
     roots = λ number below marks. absurd (subst (λ (c : Collector). c.phase % cycle_phases ≢ marking_phase) (sym opens.nothing_done) (λ e. omega (arith, e)) marks.phase);

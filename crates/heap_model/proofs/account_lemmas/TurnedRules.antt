@@ -36,7 +36,7 @@ module _ (heap : Heap) (history : List Entry) where
       within = λ begun reach.
           let within = leaves.within begun (rw (cycle_graph_without_turned heap history) reach) in
           record {
-            used = omega (arith, within.used, gained_without_turned history, lost_without_turned history, bound_without_turned heap history begun);
+            used = omega (arith, within.used, gained_without_turned history heap, lost_without_turned history, bound_without_turned heap history begun);
             spine = omega (arith, within.spine, granted_without_turned history, returned_without_turned history, spine_bound_without_turned heap history begun);
             at_most = omega (arith, within.at_most, bound_without_turned heap history begun);
           };
@@ -60,7 +60,7 @@ module _ (heap : Heap) (history : List Entry) where
 
   shows_space : (number : ℕ) (command : Command) (reply : Reply) → ShowsSpace heap true (without_turned history) number command reply → ShowsSpace heap true history number command reply
   shows_space number command (replies.Full need found) (needed, less, finds) =
-      (needed, less, omega (arith, finds, gained_without_turned history, lost_without_turned history, taken_without_turned history number, spent_without_turned history number))
+      (needed, less, omega (arith, finds, gained_without_turned history heap, lost_without_turned history, taken_without_turned history number, spent_without_turned history number))
   shows_space number command _ shows = tt
 
   shows_spine : (number : ℕ) (command : Command) (reply : Reply) → ShowsSpine heap true (without_turned history) number command reply → ShowsSpine heap true history number command reply
@@ -72,7 +72,7 @@ module _ (heap : Heap) (history : List Entry) where
       subst (λ es. Contains es (entries.Swings id)) (sym (after_last_without_turned begins_phase (λ c r. refl) history)) (contained_stays_without_turned _ (entries.Swings id) refl has)
 
   takes_still : (entry : Entry) → TakesAndGives heap (without_turned history) entry → TakesAndGives heap history entry
-  takes_still (entries.Takes number count) (some, enough) = (some, omega (arith, enough, gained_without_turned history, lost_without_turned history))
+  takes_still (entries.Takes number count) (some, enough) = (some, omega (arith, enough, gained_without_turned history heap, lost_without_turned history))
   takes_still (entries.GivesBack number count) (some, enough) = (some, omega (arith, enough, taken_without_turned history number, spent_without_turned history number))
   takes_still _ takes = tt
 
@@ -99,7 +99,7 @@ module _ (heap : Heap) (history : List Entry) where
 
   sweeps_still : (entry : Entry) → Sweeps heap (without_turned history) entry → Sweeps heap history entry
   sweeps_still (entries.Frees count) (when, some, enough) =
-      (ap (λ n. n % cycle_phases) (sym (phase_without_turned history)) ∙ when, some, omega (arith, enough, gained_without_turned history, lost_without_turned history))
+      (ap (λ n. n % cycle_phases) (sym (phase_without_turned history)) ∙ when, some, omega (arith, enough, gained_without_turned history heap, lost_without_turned history))
   sweeps_still (entries.Returns count) (when, some, enough) =
       (ap (λ n. n % cycle_phases) (sym (phase_without_turned history)) ∙ when, some, omega (arith, enough, granted_without_turned history, returned_without_turned history))
   sweeps_still (entries.Swings id) (when, array, first) =

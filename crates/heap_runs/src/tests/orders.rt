@@ -78,7 +78,7 @@ fn a_hundred_runs_have_orders(rt: HostRuntime) -> Result<(), Fail> {
     };
     for start in 0..100 {
         let (groups, spine) = SIZES[start as usize % SIZES.len()];
-        let heap = Heap::make(groups, spine, 2).ok_or("the limits")?;
+        let heap = Heap::make(groups, spine, 2, 32).ok_or("the limits")?;
         let run = run_from(&rt, alloc, heap, start)?;
         assert!(rt; run.tells_all(), "{start}");
         let logs = run.closed.logs();

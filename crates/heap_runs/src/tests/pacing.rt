@@ -29,7 +29,7 @@ impl Pace for Fixed {
 #[test]
 fn makes_what_is_asked_for_or_waits(rt: HostRuntime) -> Result<(), Fail> {
     let alloc = rt.alloc();
-    let heap = Heap::make(1, 0, 1).ok_or("a heap")?;
+    let heap = Heap::make(1, 0, 1, 32).ok_or("a heap")?;
     let waits = Turn::Waits {
         seat: 0,
         answered: 0,

@@ -57,7 +57,7 @@ fn first_collect<R: Wait>(
 ) -> Result<(CollectReply, u64), Fail>
     requires { 1 ≤ patience }
 {
-    let heap = Heap::make(1, 0, seats).ok_or("a heap")?;
+    let heap = Heap::make(1, 0, seats, 32).ok_or("a heap")?;
     let (holders, collector) = HeapTable::make::<Log, Log>(alloc, heap)?;
     let mut seat = first_seat(&collector, holders)?;
     if seat.left() {

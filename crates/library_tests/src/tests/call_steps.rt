@@ -24,7 +24,7 @@ use std::test::Fail;
 
 /// The only seat of a heap that opens.
 fn lone_seat(alloc: Global, groups: u16, spine: u16) -> Result<Holder, Fail> {
-    let heap = Heap::make(groups, spine, 1).ok_or("the limits")?;
+    let heap = Heap::make(groups, spine, 1, 32).ok_or("the limits")?;
     let (mut holders, _) = HeapTable::make::<Log, Log>(alloc, heap)?;
     Ok(holders.pop().ok_or("a seat")?)
 }

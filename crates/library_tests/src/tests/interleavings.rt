@@ -58,7 +58,7 @@ fn a_thousand_interleavings(rt: HostRuntime) -> Result<(), Fail> {
         swings: 0,
     };
     for (seats, groups, spine, scripts) in PLAYS {
-        let heap = Heap::make(groups, spine, seats).ok_or("the limits")?;
+        let heap = Heap::make(groups, spine, seats, 32).ok_or("the limits")?;
         for start in 0..scripts {
             let (told, closed) = played(alloc, heap, start)?.ok_or("unfinished")?;
             same(&rt, &fault_in(alloc, heap, &told, &closed)?, &None, &start);

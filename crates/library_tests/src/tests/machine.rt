@@ -2,6 +2,7 @@
 
 mod arrays;
 mod barrier;
+mod boards;
 mod calls;
 mod collects;
 mod copying;

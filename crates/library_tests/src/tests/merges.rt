@@ -112,7 +112,7 @@ fn said(seat: u8, command: Command, reply: Reply) -> Entry {
 // No text has a cas. One that swaps waits for those of other logs that found the field before it and left it, and for gets as a set does.
 #[test]
 fn puts_a_cas_that_left_the_field_first(rt: HostRuntime) -> Result<(), Fail> {
-    let heap = Heap::make(1, 0, 2).ok_or("the limits")?;
+    let heap = Heap::make(1, 0, 2, 32).ok_or("the limits")?;
     let number = |seat: u8, n: u32| said(seat, Command::Num { d: 1, n }, Reply::Done);
     let left = said(1, swap(1), Reply::Now(0));
     let swapped = said(0, swap(5), Reply::Was(0));

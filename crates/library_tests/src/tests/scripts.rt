@@ -61,6 +61,7 @@ fn each_command(rt: HostRuntime) -> Result<(), Fail> {
             groups: 4,
             spine: 8,
             seats: 2,
+            board: 32,
         };
         same(&rt, &script.heap, &heap, &text.len());
         let wanted = script_lines();

@@ -162,7 +162,7 @@ pub(super) fn run_two<R: Threads>(
 
 #[test]
 fn two_threads_make_forty_records(rt: HostRuntime) -> Result<(), Fail> {
-    let heap = Heap::make(8, 0, 2).ok_or("the limits")?;
+    let heap = Heap::make(8, 0, 2, 32).ok_or("the limits")?;
     let closed = run_two(&rt, rt.alloc(), heap, Task::Records(20))?.ok_or("a seat hasn't left")?;
     let logs = closed.logs();
     same(&rt, &logs.len(), &3, &"the logs");

@@ -12,12 +12,12 @@ use Rattle.heap_model.specs.declared.reply.TurnReply.{TurnReply}
 use Rattle.heap_model.specs.declared.reply.TurnReply.TheVariants as turns
 use Rattle.script_text.proofs.Numbers.{number_below-decimal}
 use Rattle.reply_text.specs.read.Parts.{lack_at, wait_at}
-use Rattle.reply_text.specs.read.Answers.{making_at, arraying_at, getting_at, setting_at, done_at, comparing_at, measuring_at, polling_at, collecting_at, answer_at}
+use Rattle.reply_text.specs.read.Answers.{making_at, arraying_at, getting_at, setting_at, swapping_at, done_at, comparing_at, measuring_at, polling_at, collecting_at, answer_at}
 use Rattle.reply_text.specs.read.TurnAnswers.{turning_at, cycling_at}
 use Rattle.reply_text.specs.write.Entries.{stamp_word, reply_words, turn_reply_words}
 use Rattle.reply_text.specs.read.Tokens.{by_first}
 use Rattle.reply_text.specs.Values.{IsWait, IsLack}
-use Rattle.reply_text.specs.Replies.{IsMaking, IsArraying, IsGetting, IsSetting, IsComparing, IsMeasuring, IsPolling, IsCollecting, IsReply, IsTurnReply}
+use Rattle.reply_text.specs.Replies.{IsMaking, IsArraying, IsGetting, IsSetting, IsSwapping, IsComparing, IsMeasuring, IsPolling, IsCollecting, IsReply, IsTurnReply}
 use Rattle.reply_text.proofs.read_lemmas.Reread.{number_at-decimal, decimal-other, id_word-other, id_of-word, stamp_of-word}
 
 -- what is needed, and what was there
@@ -67,6 +67,13 @@ setting-again replies.NoObject h = refl
 setting-again replies.NoField h = refl
 setting-again _ h = absurd h
 
+swapping-again : (reply : Reply) → IsSwapping reply → by_first swapping_at (reply_words reply) ≡ Some (reply, [])
+swapping-again (replies.Now stamp) h = rw (stamp_of-word stamp h) refl
+swapping-again (replies.Was stamp) h = setting-again (replies.Was stamp) h
+swapping-again replies.NoObject h = refl
+swapping-again replies.NoField h = refl
+swapping-again _ h = absurd h
+
 done-again : (reply : Reply) → reply ≡ replies.Done → by_first done_at (reply_words reply) ≡ Some (reply, [])
 done-again reply e = rw e refl
 
@@ -96,7 +103,7 @@ answer_at-words (New d fields) reply h = making-again reply h
 answer_at-words (Array d cells) reply h = arraying-again reply h
 answer_at-words (Get d r i) reply h = getting-again reply h
 answer_at-words (Set r i v) reply h = setting-again reply h
-answer_at-words (Cas r i a v) reply h = absurd h
+answer_at-words (Cas r i a v) reply h = swapping-again reply h
 answer_at-words (Num d n) reply h = done-again reply h
 answer_at-words (Nil d) reply h = done-again reply h
 answer_at-words (Copy d r) reply h = done-again reply h

@@ -1,12 +1,13 @@
 -- The command that was read by its words, or that there is none.
 use Rattle.std.proofs.Common.{◌≡◌, ◌≢◌, ℕ, ◌<◌, ◌^◌, ◌&&◌, List, [], ◌∷◌, ◌++◌, Bool, true, false, cond, Option, Some, None, Ok, Err, option_map, bytes_eq, decimal, nat_le, refl, arith, rules}
 use Rattle.std.specs.Map.{lookup}
+use Rattle.std.proofs.lemmas.Bool.{eqb-true}
 use Rattle.heap_model.specs.Command.{IsCommand, IsWithin, IsTarget, IsRegister, IsIndex}
 use Rattle.heap_model.specs.declared.command.Command.{Command}
 use Rattle.heap_model.specs.declared.command.Command.TheVariants.{New, Array, Get, Set, Cas, Num, Nil, Copy, Same, Len, Poll, Collect, Leave}
-use Rattle.heap_model.specs.declared.reply.Reply.{Reply}
 use Rattle.script_text.specs.declared.cause.Cause.{Cause}
 use Rattle.script_text.specs.declared.cause.Cause.TheVariants.{OutOfRange, TooManyWords}
+use Rattle.script_text.specs.Commands.{version_commands}
 use Rattle.script_text.specs.Grammar.{IsScripted}
 use Rattle.script_text.specs.LineFaults.{command_fault, named_fault}
 use Rattle.script_text.specs.Numbers.{number_of}
@@ -15,7 +16,6 @@ use Rattle.script_text.specs.Words.{command_words}
 use Rattle.script_text.proofs.Numbers.{number_below-decimal}
 use Rattle.reply_text.specs.read.Commands.{within, operand_of, operands_at, scripted_at, command_at}
 use Rattle.reply_text.specs.read.Tokens.{◌>>=◌}
-use Rattle.reply_text.specs.Replies.{IsReply}
 use Rattle.reply_text.specs.Written.{IsSpelled}
 
 -- an operand in the range is read
@@ -35,34 +35,31 @@ index_of : (i : ℕ) → IsIndex i → operand_of index_range (decimal i) ≡ So
 index_of i h = operand_of-decimal 0 4096 i (omega arith) (omega arith, h)
 
 -- the command that begins with the first word
-abbrev pub first_command : List (List ℕ) → Option (Command × List (List ℕ))
-first_command [] = None
-first_command (word ∷ rest) = command_at word rest
+abbrev pub first_command : ℕ → List (List ℕ) → Option (Command × List (List ℕ))
+first_command version [] = None
+first_command version (word ∷ rest) = command_at version word rest
 
--- what has a reply in a text, and what a script may have, is spelled in a text
-pub answered_command_is_spelled : (command : Command) (reply : Reply) → IsReply command reply → IsSpelled command
-answered_command_is_spelled (Cas r i a v) reply none = absurd none
-answered_command_is_spelled _ reply is = tt
-
-pub scripted_command_is_spelled : (command : Command) → IsScripted command → IsSpelled command
-scripted_command_is_spelled (Cas r i a v) none = absurd none
-scripted_command_is_spelled _ is = tt
+-- what a script may have is spelled in a text of its version
+pub scripted_command_is_spelled : (version : ℕ) (command : Command) → IsScripted (version_commands version) command → IsSpelled version command
+scripted_command_is_spelled version (Cas r i a v) is = eqb-true version 2 is.0
+scripted_command_is_spelled version _ is = tt
 
 -- a command that was spelled is read
-pub first_command-words : (command : Command) (rest : List (List ℕ)) → IsCommand command → IsSpelled command → first_command (command_words command ++ rest) ≡ Some (command, rest)
-first_command-words (New d fields) rest h is = rw (target_of d h.0, operand_of-decimal 1 47 fields (omega arith) h.1) refl
-first_command-words (Array d cells) rest h is = rw (target_of d h.0, operand_of-decimal 1 4096 cells (omega arith) h.1) refl
-first_command-words (Get d r i) rest h is = rw (target_of d h.0, register_of r h.1, index_of i h.2) refl
-first_command-words (Set r i v) rest h is = rw (register_of r h.0, index_of i h.1, register_of v h.2) refl
-first_command-words (Cas r i a v) rest h none = absurd none
-first_command-words (Num d n) rest h is = rw (target_of d h.0, operand_of-decimal 0 1073741823 n (omega arith) (omega arith, omega (arith, h.1))) refl
-first_command-words (Nil d) rest h is = rw (target_of d h) refl
-first_command-words (Copy d r) rest h is = rw (target_of d h.0, register_of r h.1) refl
-first_command-words (Same a b) rest h is = rw (register_of a h.0, register_of b h.1) refl
-first_command-words (Len r) rest h is = rw (register_of r h) refl
-first_command-words Poll rest h is = refl
-first_command-words Collect rest h is = refl
-first_command-words Leave rest h is = refl
+pub first_command-words : (version : ℕ) (command : Command) (rest : List (List ℕ)) → IsCommand command → IsSpelled version command →
+    first_command version (command_words command ++ rest) ≡ Some (command, rest)
+first_command-words version (New d fields) rest h is = rw (target_of d h.0, operand_of-decimal 1 47 fields (omega arith) h.1) refl
+first_command-words version (Array d cells) rest h is = rw (target_of d h.0, operand_of-decimal 1 4096 cells (omega arith) h.1) refl
+first_command-words version (Get d r i) rest h is = rw (target_of d h.0, register_of r h.1, index_of i h.2) refl
+first_command-words version (Set r i v) rest h is = rw (register_of r h.0, index_of i h.1, register_of v h.2) refl
+first_command-words version (Cas r i a v) rest h is = rw (is, register_of r h.0, index_of i h.1, register_of a h.2, register_of v h.3) refl
+first_command-words version (Num d n) rest h is = rw (target_of d h.0, operand_of-decimal 0 1073741823 n (omega arith) (omega arith, omega (arith, h.1))) refl
+first_command-words version (Nil d) rest h is = rw (target_of d h) refl
+first_command-words version (Copy d r) rest h is = rw (target_of d h.0, register_of r h.1) refl
+first_command-words version (Same a b) rest h is = rw (register_of a h.0, register_of b h.1) refl
+first_command-words version (Len r) rest h is = rw (register_of r h) refl
+first_command-words version Poll rest h is = refl
+first_command-words version Collect rest h is = refl
+first_command-words version Leave rest h is = refl
 
 -- what follows the first operand
 abbrev operands_after : List Range → Option (ℕ × List (List ℕ)) → Option (List ℕ × List (List ℕ))

@@ -5,6 +5,7 @@ use Rattle.std.proofs.lemmas.Grind.{common_steps}
 use Rattle.std.proofs.lemmas.List.{take-append-drop}
 use Rattle.heap_model.specs.declared.entry.Entry.{Entry}
 use Rattle.script_text.specs.declared.cause.LineFault.{LineFault}
+use Rattle.script_text.specs.declared.preamble.Preamble.{Preamble}
 use Rattle.script_text.specs.declared.script.Form.{Form}
 use Rattle.script_text.specs.declared.script.Form.TheVariants.{Play, Run}
 use Rattle.script_text.specs.Text.{sentence}
@@ -24,14 +25,14 @@ use Rattle.reply_text.specs.Written.{IsWritten}
 use Rattle.reply_text.proofs.read_lemmas.LineReread.{line_at-words}
 use Rattle.reply_text.proofs.write_lemmas.WordsAbove.{AreWords, line_words_are_above}
 
-line_of-sentence : (form : Form) (seats : ℕ) (words : List (List ℕ)) (line : HistoryLine) → AreWords words → line_at form seats words ≡ Some (line, []) → line_of form seats (sentence words) ≡ Some line
+line_of-sentence : (form : Form) (preamble : Preamble) (words : List (List ℕ)) (line : HistoryLine) → AreWords words → line_at form preamble words ≡ Some (line, []) → line_of form preamble (sentence words) ≡ Some line
 unfolding line_of
-line_of-sentence form seats [] line f e = cc
-line_of-sentence form seats (word ∷ words) line f e = rw (words_of-sentence word words f, e) refl
+line_of-sentence form preamble [] line f e = cc
+line_of-sentence form preamble (word ∷ words) line f e = rw (words_of-sentence word words f, e) refl
 
 -- a line that was spelled is that line
-pub line_of-history_line : (form : Form) (seats : ℕ) (line : HistoryLine) → seats < 2 ^ 8 → IsHistoryLine form seats line → line_of form seats (history_line line) ≡ Some line
-line_of-history_line form seats line few h = line_of-sentence form seats (history_words line) line (line_words_are_above form seats line few h) (line_at-words form seats line few h)
+pub line_of-history_line : (form : Form) (preamble : Preamble) (line : HistoryLine) → preamble.heap.seats < 2 ^ 8 → IsHistoryLine form preamble line → line_of form preamble (history_line line) ≡ Some line
+line_of-history_line form preamble line few h = line_of-sentence form preamble (history_words line) line (line_words_are_above form preamble line few h) (line_at-words form preamble line few h)
 
 -- where the lines lead
 abbrev pub follow : Stage → List HistoryLine → Option Stage
@@ -51,13 +52,13 @@ end_fault-none Marked number e = cc
 end_fault-none Ended number e = refl
 
 -- lines that lead to the end have no fault
-pub lines_fault-none : (form : Form) (seats : ℕ) (stage : Stage) (number : ℕ) (lines : List HistoryLine) → seats < 2 ^ 8 → AllByRecursion (IsHistoryLine form seats) lines →
-    follow stage lines ≡ Some Ended → number + length lines ≤ too_many → history_lines_fault form seats stage number (map history_line lines) ≡ None
-lines_fault-none form seats stage number [] few h e short = end_fault-none stage number e
-lines_fault-none form seats stage number (line ∷ lines) few h e short =
-    rw (line_of-history_line form seats line few h.0)
-    (step-none number (after_line stage line) lines (λ next. history_lines_fault form seats next (number + 1) (map history_line lines)) (omega arith) e
-    (λ next led. lines_fault-none form seats next (number + 1) lines few h.1 led (omega arith)))
+pub lines_fault-none : (form : Form) (preamble : Preamble) (stage : Stage) (number : ℕ) (lines : List HistoryLine) → preamble.heap.seats < 2 ^ 8 → AllByRecursion (IsHistoryLine form preamble) lines →
+    follow stage lines ≡ Some Ended → number + length lines ≤ too_many → history_lines_fault form preamble stage number (map history_line lines) ≡ None
+lines_fault-none form preamble stage number [] few h e short = end_fault-none stage number e
+lines_fault-none form preamble stage number (line ∷ lines) few h e short =
+    rw (line_of-history_line form preamble line few h.0)
+    (step-none number (after_line stage line) lines (λ next. history_lines_fault form preamble next (number + 1) (map history_line lines)) (omega arith) e
+    (λ next led. lines_fault-none form preamble next (number + 1) lines few h.1 led (omega arith)))
 
 follow-entries : (stage : Stage) (entries : List Entry) (more : List HistoryLine) → ((entry : Entry) → after_line stage (lines.Entry entry) ≡ Some stage) →
     follow stage (map lines.Entry entries ++ more) ≡ follow stage more
@@ -86,29 +87,29 @@ all_parted : {A : Type 0} (P : A → Type 0) (xs ys : List A) → AllByRecursion
 all_parted P [] ys f = (tt, f)
 all_parted P (x ∷ xs) ys f = let parts = all_parted P xs ys f.1 in ((f.0, parts.0), parts.1)
 
-entry_lines : (form : Form) (seats : ℕ) (entries : List Entry) → AllByRecursion (IsWritten form seats) entries → AllByRecursion (IsHistoryLine form seats) (map lines.Entry entries)
-entry_lines form seats [] f = tt
-entry_lines form seats (entry ∷ entries) f = (f.0, entry_lines form seats entries f.1)
+entry_lines : (form : Form) (preamble : Preamble) (entries : List Entry) → AllByRecursion (IsWritten form preamble) entries → AllByRecursion (IsHistoryLine form preamble) (map lines.Entry entries)
+entry_lines form preamble [] f = tt
+entry_lines form preamble (entry ∷ entries) f = (f.0, entry_lines form preamble entries f.1)
 
-marked_lines : (form : Form) (seats count : ℕ) (mark : Option SpaceMark) (entries : List Entry) → AllByRecursion (IsWritten form seats) entries → MarkFits form count mark →
-    AllByRecursion (IsHistoryLine form seats) (lines_with_mark mark entries)
-marked_lines Play seats count None entries f h = absurd h
-marked_lines Play seats count (Some mark) entries f h =
-    let P : List Entry → Type 0 = λ es. AllByRecursion (IsWritten Play seats) es in
-    let parts = all_parted (IsWritten Play seats) (take mark.before entries) (drop mark.before entries) (subst P (sym (take-append-drop mark.before entries)) f) in
-    all_joined (IsHistoryLine Play seats) (map lines.Entry (take mark.before entries)) (space_line mark ∷ map lines.Entry (drop mark.before entries))
-    (entry_lines Play seats (take mark.before entries) parts.0) (h.1, entry_lines Play seats (drop mark.before entries) parts.1)
-marked_lines Run seats count None entries f h = entry_lines Run seats entries f
-marked_lines Run seats count (Some mark) entries f h = absurd h
+marked_lines : (form : Form) (preamble : Preamble) (count : ℕ) (mark : Option SpaceMark) (entries : List Entry) → AllByRecursion (IsWritten form preamble) entries → MarkFits form count mark →
+    AllByRecursion (IsHistoryLine form preamble) (lines_with_mark mark entries)
+marked_lines Play preamble count None entries f h = absurd h
+marked_lines Play preamble count (Some mark) entries f h =
+    let P : List Entry → Type 0 = λ es. AllByRecursion (IsWritten Play preamble) es in
+    let parts = all_parted (IsWritten Play preamble) (take mark.before entries) (drop mark.before entries) (subst P (sym (take-append-drop mark.before entries)) f) in
+    all_joined (IsHistoryLine Play preamble) (map lines.Entry (take mark.before entries)) (space_line mark ∷ map lines.Entry (drop mark.before entries))
+    (entry_lines Play preamble (take mark.before entries) parts.0) (h.1, entry_lines Play preamble (drop mark.before entries) parts.1)
+marked_lines Run preamble count None entries f h = entry_lines Run preamble entries f
+marked_lines Run preamble count (Some mark) entries f h = absurd h
 
 -- the lines of a history are lines that it may have
-pub body_is_history_lines : (form : Form) (seats count : ℕ) (mark : Option SpaceMark) (entries : List Entry) (used : ℕ) → AllByRecursion (IsWritten form seats) entries → MarkFits form count mark → used < 2 ^ 64 →
-    AllByRecursion (IsHistoryLine form seats) (lines_with_mark mark entries ++ lines.End used ∷ [])
-body_is_history_lines form seats count mark entries used f h small =
-    all_joined (IsHistoryLine form seats) (lines_with_mark mark entries) (lines.End used ∷ []) (marked_lines form seats count mark entries f h) (small, tt)
+pub body_is_history_lines : (form : Form) (preamble : Preamble) (count : ℕ) (mark : Option SpaceMark) (entries : List Entry) (used : ℕ) → AllByRecursion (IsWritten form preamble) entries → MarkFits form count mark → used < 2 ^ 64 →
+    AllByRecursion (IsHistoryLine form preamble) (lines_with_mark mark entries ++ lines.End used ∷ [])
+body_is_history_lines form preamble count mark entries used f h small =
+    all_joined (IsHistoryLine form preamble) (lines_with_mark mark entries) (lines.End used ∷ []) (marked_lines form preamble count mark entries f h) (small, tt)
 
 -- and none has a line feed
-pub history_lines-above : (form : Form) (seats : ℕ) (lines : List HistoryLine) → seats < 2 ^ 8 → AllByRecursion (IsHistoryLine form seats) lines → AllByRecursion (IsAbove 31) (map history_line lines)
-history_lines-above form seats [] few h = tt
-history_lines-above form seats (line ∷ lines) few h =
-    (IsAbove-sentence (history_words line) (line_words_are_above form seats line few h.0), history_lines-above form seats lines few h.1)
+pub history_lines-above : (form : Form) (preamble : Preamble) (lines : List HistoryLine) → preamble.heap.seats < 2 ^ 8 → AllByRecursion (IsHistoryLine form preamble) lines → AllByRecursion (IsAbove 31) (map history_line lines)
+history_lines-above form preamble [] few h = tt
+history_lines-above form preamble (line ∷ lines) few h =
+    (IsAbove-sentence (history_words line) (line_words_are_above form preamble line few h.0), history_lines-above form preamble lines few h.1)

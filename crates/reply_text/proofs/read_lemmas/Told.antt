@@ -3,6 +3,7 @@ use Rattle.std.proofs.Common.{◌≡◌, ℕ, ◌+◌, ◌<◌, ◌^◌, List, [
 use Rattle.std.specs.List.{AllByRecursion}
 use Rattle.std.proofs.lemmas.List.{append-nil, take-append-drop, length-take-le}
 use Rattle.heap_model.specs.declared.entry.Entry.{Entry}
+use Rattle.script_text.specs.declared.preamble.Preamble.{Preamble}
 use Rattle.script_text.specs.declared.script.Form.{Form}
 use Rattle.script_text.specs.declared.script.Form.TheVariants.{Play, Run}
 use Rattle.reply_text.specs.declared.history.SpaceMark.{SpaceMark}
@@ -83,8 +84,8 @@ values_in (None ∷ more) = values_in more
 values_in (Some line ∷ more) = line ∷ values_in more
 
 -- the texts of lines tell the lines
-pub lines-from_texts : (form : Form) (seats : ℕ) (lines : List HistoryLine) → seats < 2 ^ 8 → AllByRecursion (IsHistoryLine form seats) lines →
-    values_in (map (line_of form seats) (map history_line lines)) ≡ lines
-lines-from_texts form seats [] few h = refl
-lines-from_texts form seats (line ∷ lines) few h =
-    rw (line_of-history_line form seats line few h.0) (ap (λ ls. line ∷ ls) (lines-from_texts form seats lines few h.1))
+pub lines-from_texts : (form : Form) (preamble : Preamble) (lines : List HistoryLine) → preamble.heap.seats < 2 ^ 8 → AllByRecursion (IsHistoryLine form preamble) lines →
+    values_in (map (line_of form preamble) (map history_line lines)) ≡ lines
+lines-from_texts form preamble [] few h = refl
+lines-from_texts form preamble (line ∷ lines) few h =
+    rw (line_of-history_line form preamble line few h.0) (ap (λ ls. line ∷ ls) (lines-from_texts form preamble lines few h.1))

@@ -1,7 +1,6 @@
 -- The words of lines have no space and no line feed.
 use Rattle.std.proofs.Common.{◌≡◌, ◌==◌, ℕ, ◌-◌, ◌/◌, ◌%◌, ◌<◌, ◌^◌, inl, inr, List, [], ◌∷◌, ◌++◌, Bool, true, false, cond, codes, decimal, refl, arith}
 use Rattle.std.specs.List.{AllByRecursion}
-use Rattle.heap_model.specs.Command.{IsCommand}
 use Rattle.heap_model.specs.declared.command.Command.{Command}
 use Rattle.heap_model.specs.declared.command.Command.TheVariants.{New, Array, Get, Set, Cas, Num, Nil, Copy, Same, Len, Poll, Collect, Leave}
 use Rattle.heap_model.specs.declared.command.TurnCommand.{TurnCommand}
@@ -15,6 +14,7 @@ use Rattle.heap_model.specs.declared.reply.Reply.{Reply}
 use Rattle.heap_model.specs.declared.reply.Reply.TheVariants as replies
 use Rattle.heap_model.specs.declared.reply.TurnReply.{TurnReply}
 use Rattle.heap_model.specs.declared.reply.TurnReply.TheVariants as turns
+use Rattle.script_text.specs.declared.preamble.Preamble.{Preamble}
 use Rattle.script_text.specs.declared.script.Form.{Form}
 use Rattle.script_text.specs.declared.script.Form.TheVariants.{Play, Run}
 use Rattle.script_text.specs.Words.{command_words, turn_words}
@@ -25,7 +25,7 @@ use Rattle.reply_text.specs.declared.history_line.HistoryLine.TheVariants as lin
 use Rattle.reply_text.specs.write.Entries.{id_word, stamp_word, waits_words, lack_words, reply_words, turn_reply_words, entry_words}
 use Rattle.reply_text.specs.write.Lines.{history_words, IsHistoryLine}
 use Rattle.reply_text.specs.Values.{IsId, IsStamp, IsWait, IsLack}
-use Rattle.reply_text.specs.Replies.{IsMaking, IsArraying, IsGetting, IsSetting, IsComparing, IsMeasuring, IsPolling, IsCollecting, IsReply, IsTurnReply}
+use Rattle.reply_text.specs.Replies.{IsMaking, IsArraying, IsGetting, IsSetting, IsSwapping, IsComparing, IsMeasuring, IsPolling, IsCollecting, IsReply, IsTurnReply}
 use Rattle.reply_text.specs.Written.{IsWritten}
 
 -- the words have bytes above the space alone
@@ -104,6 +104,13 @@ setting-above replies.NoObject h = no-above (codes "object") (IsAbove-from_test 
 setting-above replies.NoField h = no-above (codes "field") (IsAbove-from_test 32 (codes "field") refl)
 setting-above _ h = absurd h
 
+swapping-above : (reply : Reply) → IsSwapping reply → AreWords (reply_words reply)
+swapping-above (replies.Now stamp) h = (IsAbove-from_test 32 (codes "now") refl, (stamp-above stamp h, tt))
+swapping-above (replies.Was stamp) h = setting-above (replies.Was stamp) h
+swapping-above replies.NoObject h = no-above (codes "object") (IsAbove-from_test 32 (codes "object") refl)
+swapping-above replies.NoField h = no-above (codes "field") (IsAbove-from_test 32 (codes "field") refl)
+swapping-above _ h = absurd h
+
 done-above : (reply : Reply) → reply ≡ replies.Done → AreWords (reply_words reply)
 done-above reply e = rw e (IsAbove-from_test 32 (codes "ok") refl, tt)
 
@@ -135,7 +142,7 @@ reply-above (New d fields) = making-above
 reply-above (Array d cells) = arraying-above
 reply-above (Get d r i) = getting-above
 reply-above (Set r i v) = setting-above
-reply-above (Cas r i a v) = λ reply none. absurd none
+reply-above (Cas r i a v) = swapping-above
 reply-above (Same a b) = comparing-above
 reply-above (Len r) = measuring-above
 reply-above Poll = polling-above
@@ -148,55 +155,39 @@ turn_reply-above commands.Cycle (turns.Cycle j) h = (IsAbove-from_test 32 (codes
 turn_reply-above (commands.Turns n) (turns.Waits seat answered phase) h = waits-above seat answered phase h
 turn_reply-above commands.Cycle (turns.Waits seat answered phase) h = waits-above seat answered phase h
 
-command-above : (command : Command) → IsCommand command → AreWords (command_words command)
-command-above (New d fields) h = command_words-above (New d fields) h
-command-above (Array d cells) h = command_words-above (Array d cells) h
-command-above (Get d r i) h = command_words-above (Get d r i) h
-command-above (Set r i v) h = command_words-above (Set r i v) h
-command-above (Cas r i a v) h =
-    (IsAbove-from_test 32 (codes "cas") refl, (IsAbove-decimal r (omega arith), (IsAbove-decimal i (omega arith), (IsAbove-decimal a (omega arith), (IsAbove-decimal v (omega arith), tt)))))
-command-above (Num d n) h = command_words-above (Num d n) h
-command-above (Nil d) h = command_words-above (Nil d) h
-command-above (Copy d r) h = command_words-above (Copy d r) h
-command-above (Same a b) h = command_words-above (Same a b) h
-command-above (Len r) h = command_words-above (Len r) h
-command-above Poll h = command_words-above Poll tt
-command-above Collect h = command_words-above Collect tt
-command-above Leave h = (IsAbove-from_test 32 (codes "leave") refl, tt)
-
-entry-above : (form : Form) (seats : ℕ) (entry : Entry) → seats < 2 ^ 8 → IsWritten form seats entry → AreWords (entry_words entry)
-entry-above form seats (entries.Said seat command reply) few h = (
+entry-above : (form : Form) (preamble : Preamble) (entry : Entry) → preamble.heap.seats < 2 ^ 8 → IsWritten form preamble entry → AreWords (entry_words entry)
+entry-above form preamble (entries.Said seat command reply) few h = (
   IsAbove-decimal seat (omega (arith, h.0)),
-  AreWords-append (command_words command) (codes "=" ∷ reply_words reply) (command-above command h.1)
+  AreWords-append (command_words command) (codes "=" ∷ reply_words reply) (command_words-above command h.1)
       (IsAbove-from_test 32 (codes "=") refl, reply-above command reply h.2),
 )
-entry-above form seats (entries.Takes seat count) few h =
+entry-above form preamble (entries.Takes seat count) few h =
     (IsAbove-decimal seat (omega (arith, h.0)), (IsAbove-from_test 32 (codes "takes") refl, (IsAbove-decimal count (omega (arith, h.1)), tt)))
-entry-above form seats (entries.GivesBack seat count) few h =
+entry-above form preamble (entries.GivesBack seat count) few h =
     (IsAbove-decimal seat (omega (arith, h.0)), (IsAbove-from_test 32 (codes "gives") refl, (IsAbove-from_test 32 (codes "back") refl, (IsAbove-decimal count (omega (arith, h.1)), tt))))
-entry-above form seats (entries.Answers seat phase) few h =
+entry-above form preamble (entries.Answers seat phase) few h =
     (IsAbove-decimal seat (omega (arith, h.0)), (IsAbove-from_test 32 (codes "answers") refl, (IsAbove-decimal phase h.1, tt)))
-entry-above form seats (entries.Advance phase) few h =
+entry-above form preamble (entries.Advance phase) few h =
     (IsAbove-from_test 32 (codes "c") refl, (IsAbove-from_test 32 (codes "phase") refl, (IsAbove-decimal phase h, tt)))
-entry-above form seats (entries.Frees count) few h =
+entry-above form preamble (entries.Frees count) few h =
     (IsAbove-from_test 32 (codes "c") refl, (IsAbove-from_test 32 (codes "frees") refl, (IsAbove-decimal count (omega arith), tt)))
-entry-above form seats (entries.Returns count) few h =
+entry-above form preamble (entries.Returns count) few h =
     (IsAbove-from_test 32 (codes "c") refl, (IsAbove-from_test 32 (codes "returns") refl, (IsAbove-decimal count (omega arith), tt)))
-entry-above form seats (entries.Swings id) few h =
+entry-above form preamble (entries.Swings id) few h =
     (IsAbove-from_test 32 (codes "c") refl, (IsAbove-from_test 32 (codes "swings") refl, (id-above id h, tt)))
-entry-above form seats (entries.Ends cycle kept) few h =
+entry-above form preamble (entries.Ends cycle kept) few h =
     (IsAbove-from_test 32 (codes "c") refl, (IsAbove-from_test 32 (codes "ends") refl, (IsAbove-decimal cycle h.0, (IsAbove-from_test 32 (codes "kept") refl, (IsAbove-decimal kept h.1, tt)))))
-entry-above Play seats (entries.Turned command reply) few h = (
+entry-above Play preamble (entries.Turned command reply) few h = (
   IsAbove-from_test 32 (codes "c") refl,
   AreWords-append (turn_words command) (codes "=" ∷ turn_reply_words reply) (turn_words-above command h.0)
       (IsAbove-from_test 32 (codes "=") refl, turn_reply-above command reply h.1),
 )
-entry-above Run seats (entries.Turned command reply) few h = absurd h
+entry-above Run preamble (entries.Turned command reply) few h = absurd h
 
 -- each word of a line
-pub line_words_are_above : (form : Form) (seats : ℕ) (line : HistoryLine) → seats < 2 ^ 8 → IsHistoryLine form seats line → AreWords (history_words line)
-line_words_are_above form seats (lines.Entry entry) few h = entry-above form seats entry few h
-line_words_are_above form seats (lines.Space used total spine budget) few h = (
+pub line_words_are_above : (form : Form) (preamble : Preamble) (line : HistoryLine) → preamble.heap.seats < 2 ^ 8 → IsHistoryLine form preamble line → AreWords (history_words line)
+line_words_are_above form preamble (lines.Entry entry) few h = entry-above form preamble entry few h
+line_words_are_above form preamble (lines.Space used total spine budget) few h = (
   IsAbove-from_test 32 (codes "space") refl,
   (
     IsAbove-from_test 32 (codes "used") refl,
@@ -209,5 +200,5 @@ line_words_are_above form seats (lines.Space used total spine budget) few h = (
     ),
   ),
 )
-line_words_are_above form seats (lines.End used) few h =
+line_words_are_above form preamble (lines.End used) few h =
     (IsAbove-from_test 32 (codes "end") refl, (IsAbove-from_test 32 (codes "used") refl, (IsAbove-decimal used h, tt)))

@@ -92,9 +92,13 @@ collecting_at word rest =
       Some (as_reply behind.0, behind.1))
     else None
 
--- no text has a reply to a cas yet
+-- a reply to `cas`, by its first word
 abbrev pub swapping_at : List ℕ → List (List ℕ) → Option (Reply × List (List ℕ))
-swapping_at word rest = None
+swapping_at word rest =
+    if bytes_eq word (codes "now") then (do
+      stamp ← first_by word_stamp rest
+      Some (replies.Now stamp.0, stamp.1))
+    else setting_at word rest
 
 -- how the replies to the command are read
 abbrev pub answer_to : Command → List ℕ → List (List ℕ) → Option (Reply × List (List ℕ))

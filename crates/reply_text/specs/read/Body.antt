@@ -4,6 +4,7 @@ use Rattle.std.specs.List.{AllByRecursion}
 use Rattle.script_text.specs.declared.cause.Cause.TheVariants.{BadEntry}
 use Rattle.script_text.specs.declared.cause.ScriptFault.{ScriptFault}
 use Rattle.script_text.specs.declared.cause.ScriptFault.TheVariants as faults
+use Rattle.script_text.specs.declared.preamble.Preamble.{Preamble}
 use Rattle.script_text.specs.declared.script.Form.{Form}
 use Rattle.script_text.specs.declared.script.Form.TheVariants.{Play}
 use Rattle.reply_text.specs.declared.read.body.Body.{Body}
@@ -32,9 +33,9 @@ IsStaged form Unmarked count mark = (form ≡ Play) × (mark ≡ None)
 IsStaged form Marked count mark = MarkFits form count mark
 IsStaged form Ended count mark = MarkFits form count mark
 
--- what was read may begin a history of this form and these seats
-pub record IsBody (form : Form) (seats : ℕ) (body : Body) : Type 0 where
-  pub entries : AllByRecursion (IsWritten form seats) body.entries
+-- what was read may begin a history of this form behind this preamble
+pub record IsBody (form : Form) (preamble : Preamble) (body : Body) : Type 0 where
+  pub entries : AllByRecursion (IsWritten form preamble) body.entries
   pub mark : IsStaged form body.stage (length body.entries) body.mark
   pub end_used : body.end_used < 2 ^ 64
 

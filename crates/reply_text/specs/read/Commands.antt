@@ -3,6 +3,7 @@ use Rattle.std.specs.Prelude.{ℕ, ◌&&◌, List, [], ◌∷◌, Option, Some, 
 use Rattle.std.specs.Map.{lookup}
 use Rattle.heap_model.specs.declared.command.Command.{Command}
 use Rattle.heap_model.specs.declared.command.Command.TheVariants.{Leave}
+use Rattle.script_text.specs.Commands.{has_command, version_commands}
 use Rattle.script_text.specs.Numbers.{number_of}
 use Rattle.script_text.specs.Operands.{Range, commands, commands_with}
 use Rattle.reply_text.specs.read.Tokens.{◌>>=◌, first_by}
@@ -31,6 +32,9 @@ scripted_at name rest = do
   command ← lookup (bytes_eq name) (commands_with numbers.0)
   Some (command, numbers.1)
 
--- the command of a seat in a history that begins with this word
-abbrev pub command_at : List ℕ → List (List ℕ) → Option (Command × List (List ℕ))
-command_at word rest = if bytes_eq word (codes "leave") then Some (Leave, rest) else scripted_at word rest
+-- the command of a seat in a history of this version that begins with this word
+abbrev pub command_at : ℕ → List ℕ → List (List ℕ) → Option (Command × List (List ℕ))
+command_at version word rest =
+    if bytes_eq word (codes "leave") then Some (Leave, rest)
+    else if has_command (version_commands version) word then scripted_at word rest
+    else None

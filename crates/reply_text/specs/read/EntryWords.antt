@@ -3,6 +3,7 @@ use Rattle.std.specs.Prelude.{ℕ, ◌^◌, List, [], ◌∷◌, Option, Some, N
 use Rattle.heap_model.specs.declared.command.TurnCommand.TheVariants as commands
 use Rattle.heap_model.specs.declared.entry.Entry.{Entry}
 use Rattle.heap_model.specs.declared.entry.Entry.TheVariants as entries
+use Rattle.script_text.specs.declared.preamble.Preamble.{Preamble}
 use Rattle.script_text.specs.declared.script.Form.{Form}
 use Rattle.script_text.specs.declared.script.Form.TheVariants.{Play, Run}
 use Rattle.script_text.specs.Numbers.{number_below}
@@ -11,18 +12,18 @@ use Rattle.reply_text.specs.read.TurnAnswers.{turning_at, cycling_at}
 use Rattle.reply_text.specs.read.Commands.{command_at}
 use Rattle.reply_text.specs.read.Tokens.{◌>>=◌, first_by, after_word, number_at, word_id}
 
--- a seat's command and its reply, from the command's first word on
-abbrev pub said_at : ℕ → List ℕ → List (List ℕ) → Option (Entry × List (List ℕ))
-said_at seat word rest = do
-  command ← command_at word rest
+-- a seat's command and its reply, in a history of this version, from the command's first word on
+abbrev pub said_at : ℕ → ℕ → List ℕ → List (List ℕ) → Option (Entry × List (List ℕ))
+said_at version seat word rest = do
+  command ← command_at version word rest
   told ← after_word (codes "=") command.1
   reply ← answer_at command.0 told
   Some (entries.Said seat command.0 reply.0, reply.1)
 
 -- an entry of a seat, after its number
-abbrev pub seat_entry : ℕ → List (List ℕ) → Option (Entry × List (List ℕ))
-seat_entry seat [] = None
-seat_entry seat (word ∷ rest) =
+abbrev pub seat_entry : ℕ → ℕ → List (List ℕ) → Option (Entry × List (List ℕ))
+seat_entry version seat [] = None
+seat_entry version seat (word ∷ rest) =
     if bytes_eq word (codes "takes") then (do
       count ← number_at (2 ^ 32) rest
       Some (entries.Takes seat count.0, count.1))
@@ -33,7 +34,7 @@ seat_entry seat (word ∷ rest) =
     else if bytes_eq word (codes "answers") then (do
       phase ← number_at (2 ^ 64) rest
       Some (entries.Answers seat phase.0, phase.1))
-    else said_at seat word rest
+    else said_at version seat word rest
 
 -- the collector's command `turns` and its reply, after that word
 abbrev pub turns_at : List (List ℕ) → Option (Entry × List (List ℕ))
@@ -86,9 +87,9 @@ collector_entry form (word ∷ rest) =
     else turned_at form word rest
 
 -- an entry, by its first word
-abbrev pub entry_at : Form → ℕ → List ℕ → List (List ℕ) → Option (Entry × List (List ℕ))
-entry_at form seats word rest =
+abbrev pub entry_at : Form → Preamble → List ℕ → List (List ℕ) → Option (Entry × List (List ℕ))
+entry_at form preamble word rest =
     if bytes_eq word (codes "c") then collector_entry form rest
     else (do
-      seat ← number_below seats word
-      seat_entry seat rest)
+      seat ← number_below preamble.heap.seats word
+      seat_entry preamble.version seat rest)

@@ -1,11 +1,12 @@
 -- The first fault of the text of a history.
 use Rattle.std.specs.Prelude.{ℕ, ◌+◌, ◌==◌, List, [], ◌∷◌, Option, Some, None, bytes_eq, codes, if◌then◌else◌}
 use Rattle.heap_model.specs.declared.heap.Heap.{Heap}
-use Rattle.script_text.specs.declared.cause.Cause.{Cause}
 use Rattle.script_text.specs.declared.cause.Cause.TheVariants.{NoHeader, BadHeap, BadEntry, NoEnd, HistoryLines}
 use Rattle.script_text.specs.declared.cause.LineFault.{LineFault}
+use Rattle.script_text.specs.declared.preamble.Preamble.{Preamble}
 use Rattle.script_text.specs.declared.script.Form.{Form}
 use Rattle.script_text.specs.declared.script.Form.TheVariants.{Play, Run}
+use Rattle.script_text.specs.Faults.{fault_at}
 use Rattle.script_text.specs.HeapLine.{heap_of}
 use Rattle.script_text.specs.Text.{lines_of, words_of}
 use Rattle.reply_text.specs.declared.read.stage.Stage.{Stage}
@@ -14,10 +15,6 @@ use Rattle.reply_text.specs.History.{too_many}
 use Rattle.reply_text.specs.read.LineWords.{line_of}
 use Rattle.reply_text.specs.read.Tokens.{◌>>=◌}
 use Rattle.reply_text.specs.read.Stages.{first_stage, after_line}
-
--- the fault of this line, by its cause
-abbrev pub fault_at : ℕ → Cause → Option LineFault
-fault_at number cause = Some (record { line = number; cause = cause })
 
 -- what is wrong where no line follows
 abbrev pub end_fault : Stage → ℕ → Option LineFault
@@ -31,28 +28,32 @@ history_line_fault number None rest = fault_at number BadEntry
 history_line_fault number (Some stage) rest = if number == too_many then fault_at number HistoryLines else rest stage
 
 -- the first fault of these lines, the first of which has this number
-abbrev pub history_lines_fault : Form → ℕ → Stage → ℕ → List (List ℕ) → Option LineFault
-history_lines_fault form seats stage number [] = end_fault stage number
-history_lines_fault form seats stage number (line ∷ more) =
-    history_line_fault number (line_of form seats line >>= after_line stage) (λ next. history_lines_fault form seats next (number + 1) more)
+abbrev pub history_lines_fault : Form → Preamble → Stage → ℕ → List (List ℕ) → Option LineFault
+history_lines_fault form preamble stage number [] = end_fault stage number
+history_lines_fault form preamble stage number (line ∷ more) =
+    history_line_fault number (line_of form preamble line >>= after_line stage) (λ next. history_lines_fault form preamble next (number + 1) more)
 
--- the form that the first line tells
-abbrev pub form_of : List ℕ → Option Form
+-- the version and the form that the first line tells
+abbrev pub form_of : List ℕ → Option (ℕ × Form)
 form_of line =
-    if bytes_eq line (codes "history 1 play") then Some Play
-    else if bytes_eq line (codes "history 1 run") then Some Run
+    if bytes_eq line (codes "history 1 play") then Some (1, Play)
+    else if bytes_eq line (codes "history 1 run") then Some (1, Run)
+    else if bytes_eq line (codes "history 2 play") then Some (2, Play)
+    else if bytes_eq line (codes "history 2 run") then Some (2, Run)
     else None
 
 -- the first fault from the third line on, if the second asks for a heap
-abbrev pub history_further_fault : Form → Option Heap → List (List ℕ) → Option LineFault
-history_further_fault form None more = fault_at 2 BadHeap
-history_further_fault form (Some heap) more = history_lines_fault form heap.seats (first_stage form) 3 more
+abbrev pub history_further_fault : ℕ → Form → Option Heap → List (List ℕ) → Option LineFault
+history_further_fault version form None more = fault_at 2 BadHeap
+history_further_fault version form (Some heap) more =
+    history_lines_fault form (record { version = version; heap = heap }) (first_stage form) 3 more
 
--- the first fault from the second line on, if the first tells a form
-abbrev pub history_heap_fault : Option Form → List (List ℕ) → Option LineFault
+-- the first fault from the second line on, if the first tells a version and a form
+abbrev pub history_heap_fault : Option (ℕ × Form) → List (List ℕ) → Option LineFault
 history_heap_fault None more = fault_at 1 NoHeader
-history_heap_fault (Some form) [] = fault_at 2 BadHeap
-history_heap_fault (Some form) (line ∷ more) = history_further_fault form (heap_of (words_of line)) more
+history_heap_fault (Some told) [] = fault_at 2 BadHeap
+history_heap_fault (Some told) (line ∷ more) =
+    history_further_fault told.0 told.1 (heap_of told.0 (words_of line)) more
 
 -- the first fault of the lines of a text
 abbrev pub history_header_fault : List (List ℕ) → Option LineFault

@@ -1,5 +1,6 @@
 -- The line of a history that words are.
 use Rattle.std.specs.Prelude.{ℕ, ◌^◌, List, [], ◌∷◌, Option, Some, None, bytes_eq, codes, if◌then◌else◌}
+use Rattle.script_text.specs.declared.preamble.Preamble.{Preamble}
 use Rattle.script_text.specs.declared.script.Form.{Form}
 use Rattle.script_text.specs.Text.{words_of}
 use Rattle.reply_text.specs.declared.history_line.HistoryLine.{HistoryLine}
@@ -28,13 +29,13 @@ end_at rest = do
   Some (lines.End used.0, used.1)
 
 -- a line, by its first word
-abbrev pub line_at : Form → ℕ → List (List ℕ) → Option (HistoryLine × List (List ℕ))
-line_at form seats [] = None
-line_at form seats (word ∷ rest) =
+abbrev pub line_at : Form → Preamble → List (List ℕ) → Option (HistoryLine × List (List ℕ))
+line_at form preamble [] = None
+line_at form preamble (word ∷ rest) =
     if bytes_eq word (codes "space") then space_at rest
     else if bytes_eq word (codes "end") then end_at rest
     else (do
-      entry ← entry_at form seats word rest
+      entry ← entry_at form preamble word rest
       Some (lines.Entry entry.0, entry.1))
 
 -- what was read, where no words are left behind it
@@ -43,5 +44,5 @@ alone (x, []) = Some x
 alone (x, word ∷ rest) = None
 
 -- the line of a history that the bytes are
-unfoldable pub line_of : Form → ℕ → List ℕ → Option HistoryLine
-line_of form seats line = line_at form seats (words_of line) >>= alone
+unfoldable pub line_of : Form → Preamble → List ℕ → Option HistoryLine
+line_of form preamble line = line_at form preamble (words_of line) >>= alone

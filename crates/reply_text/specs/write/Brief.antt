@@ -6,7 +6,7 @@ use Rattle.reply_text.specs.declared.history.History.{History}
 use Rattle.reply_text.specs.declared.history.SpaceMark.{SpaceMark}
 use Rattle.reply_text.specs.declared.history_line.HistoryLine.TheVariants as lines
 use Rattle.reply_text.specs.declared.write.counts.BriefCounts.{BriefCounts}
-use Rattle.reply_text.specs.History.{space_line}
+use Rattle.reply_text.specs.History.{history_preamble, space_line}
 use Rattle.reply_text.specs.write.Counts.{counts_of}
 use Rattle.reply_text.specs.write.Lines.{history_line}
 
@@ -28,4 +28,4 @@ mark_lines (Some mark) = history_line (space_line mark) ∷ []
 abbrev pub brief_lines : History → List (List ℕ)
 brief_lines history =
     let counts = counts_of history.entries in
-    codes "brief 1" ∷ heap_line history.heap ∷ commands_line counts ∷ work_line counts ∷ mark_lines history.mark ++ history_line (lines.End history.end_used) ∷ []
+    codes "brief 1" ∷ heap_line (history_preamble history) ∷ commands_line counts ∷ work_line counts ∷ mark_lines history.mark ++ history_line (lines.End history.end_used) ∷ []

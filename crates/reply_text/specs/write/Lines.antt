@@ -1,5 +1,6 @@
 -- The lines of a history after its heap line: how each is spelled, and which there may be.
 use Rattle.std.specs.Prelude.{ℕ, ◌<◌, ◌^◌, List, [], ◌∷◌, codes, decimal}
+use Rattle.script_text.specs.declared.preamble.Preamble.{Preamble}
 use Rattle.script_text.specs.declared.script.Form.{Form}
 use Rattle.script_text.specs.Text.{sentence}
 use Rattle.reply_text.specs.declared.history_line.HistoryLine.{HistoryLine}
@@ -19,8 +20,8 @@ history_words (lines.End used) = codes "end" ∷ codes "used" ∷ decimal used �
 abbrev pub history_line : HistoryLine → List ℕ
 history_line line = sentence (history_words line)
 
--- a line that a history of this form and these seats may have
-abbrev pub IsHistoryLine : Form → ℕ → HistoryLine → Type 0
-IsHistoryLine form seats (lines.Entry entry) = IsWritten form seats entry
-IsHistoryLine form seats (lines.Space used total spine budget) = IsSpace used total spine budget
-IsHistoryLine form seats (lines.End used) = used < 2 ^ 64
+-- a line that a history of this form may have behind this preamble
+abbrev pub IsHistoryLine : Form → Preamble → HistoryLine → Type 0
+IsHistoryLine form preamble (lines.Entry entry) = IsWritten form preamble entry
+IsHistoryLine form preamble (lines.Space used total spine budget) = IsSpace used total spine budget
+IsHistoryLine form preamble (lines.End used) = used < 2 ^ 64

@@ -3,10 +3,10 @@ ghost use Rattle.heap_model.specs.Behind.{as_reply};
 ghost use Rattle.heap_model.specs.declared.reply.Reply.TheVariants as replies;
 ghost use Rattle.reply_text.specs.read.Tokens.{ReadsAs};
 ghost use Rattle.reply_text.specs.read.Parts.{value_at, lack_at, wait_at};
-ghost use Rattle.reply_text.specs.read.Answers.{making_at, arraying_at, nowhere_at, getting_at, setting_at, done_at, comparing_at, measuring_at, polling_at, collecting_at, answer_at};
+ghost use Rattle.reply_text.specs.read.Answers.{making_at, arraying_at, nowhere_at, getting_at, setting_at, swapping_at, done_at, comparing_at, measuring_at, polling_at, collecting_at, answer_at};
 ghost use Rattle.reply_text.specs.write.Entries.{reply_words, value_words};
 ghost use Rattle.reply_text.specs.Values.{IsValue};
-ghost use Rattle.reply_text.specs.Replies.{IsMaking, IsArraying, TellsNoPlace, IsGetting, IsSetting, IsComparing, IsMeasuring, IsPolling, IsCollecting, IsReply};
+ghost use Rattle.reply_text.specs.Replies.{IsMaking, IsArraying, TellsNoPlace, IsGetting, IsSetting, IsSwapping, IsComparing, IsMeasuring, IsPolling, IsCollecting, IsReply};
 
 use crate::read::misspelled::Misspelled;
 use crate::read::tokens::{count, id, literal, next_word, number, number_of_word, read_id, stamp};
@@ -133,6 +133,18 @@ fn setting(word: &[u8], words: &mut Parts<'_>) -> Result<Reply, Misspelled>
     }
 }
 
+/// A reply to `cas`.
+fn swapping(word: &[u8], words: &mut Parts<'_>) -> Result<Reply, Misspelled>
+    ensures found { IfOk result (λ reply. word.now ∷ words.old ≡ reply_words reply ++ words.new) }
+    ensures range { IfOk result IsSwapping }
+    ensures gives { ReadsAs result (swapping_at word.now words.old) words.new }
+{
+    if word == b"now".as_slice() {
+        return Ok(Reply::Now(stamp(words)?));
+    }
+    setting(word, words)
+}
+
 /// A reply to a command that can't fail.
 fn done(word: &[u8], words: &mut Parts<'_>) -> Result<Reply, Misspelled>
     ensures found { IfOk result (λ reply. word.now ∷ words.old ≡ reply_words reply ++ words.new) }
@@ -205,7 +217,7 @@ pub fn read_reply(words: &mut Parts<'_>, command: &Command) -> Result<Reply, Mis
         Command::Array { .. } => arraying(word, words),
         Command::Get { .. } => getting(word, words),
         Command::Set { .. } => setting(word, words),
-        Command::Cas { .. } => Err(Misspelled),
+        Command::Cas { .. } => swapping(word, words),
         Command::Same { .. } => comparing(word, words),
         Command::Len { .. } => measuring(word, words),
         Command::Poll => polling(word, words),

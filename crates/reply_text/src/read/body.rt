@@ -1,5 +1,6 @@
-ghost use Rattle.std.specs.Prelude.{◌≡◌, ℕ, [], ◌∷◌, ◌++◌, Some, OnOk, IfErr};
+ghost use Rattle.std.specs.Prelude.{◌≡◌, [], ◌∷◌, ◌++◌, Some, OnOk, IfErr};
 ghost use Rattle.script_text.specs.declared.cause.ScriptFault.TheVariants as faults;
+ghost use Rattle.script_text.specs.declared.preamble.Preamble.{Preamble};
 ghost use Rattle.script_text.specs.declared.script.Form.{Form};
 ghost use Rattle.reply_text.specs.read.Body.{IsBody, IsMisplaced, end_lines, lines_read};
 ghost use Rattle.reply_text.specs.read.Stages.{after_line, first_stage};
@@ -29,7 +30,7 @@ impl Body {
     pub fn new(alloc: Global, form: Form) -> Body
         ensures empty { lines_read result ≡ [] }
         ensures stage { result.stage ≡ first_stage form }
-        ensures range { (seats : ℕ) → IsBody form seats result }
+        ensures range { (preamble : Preamble) → IsBody form preamble result }
     {
         let stage = match form {
             Form::Play => Stage::Unmarked,
@@ -46,10 +47,10 @@ impl Body {
     /// Adds an entry.
     fn add_entry(&mut self, entry: Entry) -> Result<(), ScriptFault>
         requires { end_lines self.old.stage self.old.end_used ≡ [] }
-        ensures found { (form : Form) (seats : ℕ) → IsBody form seats self.old →
+        ensures found { (form : Form) (preamble : Preamble) → IsBody form preamble self.old →
             OnOk result (lines_read self.new ≡ lines_read self.old ++ lines.Entry entry ∷ []) }
-        ensures range { (form : Form) (seats : ℕ) → IsBody form seats self.old →
-            IsWritten form seats entry → OnOk result (IsBody form seats self.new) }
+        ensures range { (form : Form) (preamble : Preamble) → IsBody form preamble self.old →
+            IsWritten form preamble entry → OnOk result (IsBody form preamble self.new) }
         ensures stage { self.new.stage ≡ self.old.stage }
         ensures fault { IfErr result (λ fault. fault ≡ faults.Memory) }
     {
@@ -59,10 +60,10 @@ impl Body {
 
     /// Adds the line of this number, if it may stand here.
     pub fn add(&mut self, line: HistoryLine, number: u32) -> Result<(), ScriptFault>
-        ensures found { (form : Form) (seats : ℕ) → IsBody form seats self.old →
+        ensures found { (form : Form) (preamble : Preamble) → IsBody form preamble self.old →
             OnOk result (lines_read self.new ≡ lines_read self.old ++ line ∷ []) }
-        ensures range { (form : Form) (seats : ℕ) → IsBody form seats self.old →
-            IsHistoryLine form seats line → OnOk result (IsBody form seats self.new) }
+        ensures range { (form : Form) (preamble : Preamble) → IsBody form preamble self.old →
+            IsHistoryLine form preamble line → OnOk result (IsBody form preamble self.new) }
         ensures gives { OnOk result (after_line self.old.stage line ≡ Some self.new.stage) }
         ensures fault { IfErr result (IsMisplaced self.old.stage number line) }
     {

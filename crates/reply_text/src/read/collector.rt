@@ -1,4 +1,5 @@
-ghost use Rattle.std.specs.Prelude.{◌≡◌, ℕ, ◌∷◌, ◌++◌, codes, IfOk};
+ghost use Rattle.std.specs.Prelude.{◌≡◌, ◌∷◌, ◌++◌, codes, IfOk};
+ghost use Rattle.script_text.specs.declared.preamble.Preamble.{Preamble};
 ghost use Rattle.script_text.specs.declared.script.Form.{Form};
 ghost use Rattle.reply_text.specs.read.Tokens.{ReadsAs};
 ghost use Rattle.reply_text.specs.write.Entries.{entry_words};
@@ -15,7 +16,7 @@ use script_text::{Form, Parts};
 fn read_ends(words: &mut Parts<'_>) -> Result<Entry, Misspelled>
     ensures found { IfOk result
         (λ entry. codes "c" ∷ codes "ends" ∷ words.old ≡ entry_words entry ++ words.new) }
-    ensures range { (form : Form) (seats : ℕ) → IfOk result (IsWritten form seats) }
+    ensures range { (form : Form) (preamble : Preamble) → IfOk result (IsWritten form preamble) }
     ensures gives { ReadsAs result (ends_at words.old) words.new }
 {
     let cycle = number(words, u64::MAX)?;
@@ -27,7 +28,7 @@ fn read_ends(words: &mut Parts<'_>) -> Result<Entry, Misspelled>
 /// What the collector did, after its word `c`.
 pub fn read_collector(words: &mut Parts<'_>, form: Form) -> Result<Entry, Misspelled>
     ensures found { IfOk result (λ entry. codes "c" ∷ words.old ≡ entry_words entry ++ words.new) }
-    ensures range { (seats : ℕ) → IfOk result (IsWritten form seats) }
+    ensures range { (preamble : Preamble) → IfOk result (IsWritten form preamble) }
     ensures gives { ReadsAs result (collector_entry form words.old) words.new }
 {
     let word = next_word(words)?;

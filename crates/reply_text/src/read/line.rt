@@ -1,4 +1,5 @@
-ghost use Rattle.std.specs.Prelude.{◌≡◌, ℕ, ◌≤◌, ◌<◌, ◌∷◌, ◌++◌, None, Some, codes, decimal, IfOk, MatchResult};
+ghost use Rattle.std.specs.Prelude.{◌≡◌, ◌≤◌, ◌<◌, ◌∷◌, ◌++◌, None, Some, codes, decimal, IfOk, MatchResult};
+ghost use Rattle.script_text.specs.declared.preamble.Preamble.{Preamble as APreamble};
 ghost use Rattle.script_text.specs.declared.script.Form.{Form};
 ghost use Rattle.script_text.specs.Numbers.{number_below};
 ghost use Rattle.reply_text.specs.read.Tokens.{ReadsAs};
@@ -14,7 +15,7 @@ use crate::read::misspelled::Misspelled;
 use crate::read::seat::read_seat_entry;
 use crate::read::tokens::{literal, next_word, number, number_of_word};
 use heap_model::Entry;
-use script_text::{Form, Parts};
+use script_text::{Form, Parts, Preamble};
 
 /// The seat that the word is the number of.
 fn read_seat(word: &[u8], seats: u8) -> Result<u8, Misspelled>
@@ -33,25 +34,25 @@ fn read_entry(
     word: &[u8],
     words: &mut Parts<'_>,
     form: Form,
-    seats: u8,
+    preamble: &Preamble,
 ) -> Result<Entry, Misspelled>
-    requires { 1 ≤ seats }
+    requires { 1 ≤ preamble.now.heap.seats }
     ensures found { IfOk result (λ entry. word.now ∷ words.old ≡ entry_words entry ++ words.new) }
-    ensures range { IfOk result (IsWritten form seats) }
-    ensures gives { ReadsAs result (entry_at form seats word.now words.old) words.new }
+    ensures range { IfOk result (IsWritten form preamble.now) }
+    ensures gives { ReadsAs result (entry_at form preamble.now word.now words.old) words.new }
 {
     if word == b"c".as_slice() {
         return read_collector(words, form);
     }
-    let seat = read_seat(word, seats)?;
-    read_seat_entry(seat, words)
+    let seat = read_seat(word, preamble.heap.seats)?;
+    read_seat_entry(seat, words, preamble)
 }
 
 /// The space line, after its first word.
 fn read_space(words: &mut Parts<'_>) -> Result<HistoryLine, Misspelled>
     ensures found { IfOk result
         (λ line. codes "space" ∷ words.old ≡ history_words line ++ words.new) }
-    ensures range { (form : Form) (seats : ℕ) → IfOk result (IsHistoryLine form seats) }
+    ensures range { (form : Form) (preamble : APreamble) → IfOk result (IsHistoryLine form preamble) }
     ensures gives { ReadsAs result (space_at words.old) words.new }
 {
     literal(words, b"used")?;
@@ -74,7 +75,7 @@ fn read_space(words: &mut Parts<'_>) -> Result<HistoryLine, Misspelled>
 fn read_end(words: &mut Parts<'_>) -> Result<HistoryLine, Misspelled>
     ensures found { IfOk result
         (λ line. codes "end" ∷ words.old ≡ history_words line ++ words.new) }
-    ensures range { (form : Form) (seats : ℕ) → IfOk result (IsHistoryLine form seats) }
+    ensures range { (form : Form) (preamble : APreamble) → IfOk result (IsHistoryLine form preamble) }
     ensures gives { ReadsAs result (end_at words.old) words.new }
 {
     literal(words, b"used")?;
@@ -82,11 +83,15 @@ fn read_end(words: &mut Parts<'_>) -> Result<HistoryLine, Misspelled>
 }
 
 /// The line that the next words are.
-fn read_front(words: &mut Parts<'_>, form: Form, seats: u8) -> Result<HistoryLine, Misspelled>
-    requires { 1 ≤ seats }
+fn read_front(
+    words: &mut Parts<'_>,
+    form: Form,
+    preamble: &Preamble,
+) -> Result<HistoryLine, Misspelled>
+    requires { 1 ≤ preamble.now.heap.seats }
     ensures found { IfOk result (λ line. words.old ≡ history_words line ++ words.new) }
-    ensures range { IfOk result (IsHistoryLine form seats) }
-    ensures gives { ReadsAs result (line_at form seats words.old) words.new }
+    ensures range { IfOk result (IsHistoryLine form preamble.now) }
+    ensures gives { ReadsAs result (line_at form preamble.now words.old) words.new }
 {
     let word = next_word(words)?;
     if word == b"space".as_slice() {
@@ -95,21 +100,22 @@ fn read_front(words: &mut Parts<'_>, form: Form, seats: u8) -> Result<HistoryLin
     if word == b"end".as_slice() {
         return read_end(words);
     }
-    let entry = read_entry(word, words, form, seats)?;
+    let entry = read_entry(word, words, form, preamble)?;
     Ok(HistoryLine::Entry(entry))
 }
 
 /// The line of a history that the bytes are.
 #[tactic(auto, unfolding(crate::specs::read::LineWords::line_of))]
-pub fn read_line(line: &[u8], form: Form, seats: u8) -> Result<HistoryLine, Misspelled>
-    requires { 1 ≤ seats }
+pub fn read_line(line: &[u8], form: Form, preamble: &Preamble) -> Result<HistoryLine, Misspelled>
+    requires { 1 ≤ preamble.now.heap.seats }
     ensures found { IfOk result (λ read. line.now ≡ history_line read) }
-    ensures range { IfOk result (IsHistoryLine form seats) }
+    ensures range { IfOk result (IsHistoryLine form preamble.now) }
     ensures gives { MatchResult result
-        (λ read. line_of form seats line.now ≡ Some read) (λ _. line_of form seats line.now ≡ None) }
+        (λ read. line_of form preamble.now line.now ≡ Some read)
+        (λ _. line_of form preamble.now line.now ≡ None) }
 {
     let mut words = Parts::words(line);
-    let read = read_front(&mut words, form, seats)?;
+    let read = read_front(&mut words, form, preamble)?;
     if words.next().is_some() {
         return Err(Misspelled);
     }

@@ -7,19 +7,21 @@ ghost use Rattle.reply_text.specs.read.Commands.{command_at};
 ghost use Rattle.reply_text.specs.write.Entries.{reply_words};
 ghost use Rattle.reply_text.specs.read.EntryWords.{said_at};
 ghost use Rattle.reply_text.specs.Replies.{IsReply};
+ghost use Rattle.reply_text.specs.Written.{IsSpelled};
 
 use crate::read::answers::read_reply;
 use crate::read::misspelled::Misspelled;
 use crate::read::tokens::literal;
 use heap_model::{Command, Reply};
-use script_text::{Parts, operands, read_name};
+use script_text::{CommandSet, Parts, operands, read_name};
 
-/// The command that begins with this word.
-fn read_command(word: &[u8], words: &mut Parts<'_>) -> Result<Command, Misspelled>
+/// The command that begins with this word, in a history of this version.
+fn read_command(word: &[u8], words: &mut Parts<'_>, version: u8) -> Result<Command, Misspelled>
     ensures found { IfOk result
         (λ command. word.now ∷ words.old ≡ command_words command ++ words.new) }
     ensures range { IfOk result IsCommand }
-    ensures gives { ReadsAs result (command_at word.now words.old) words.new }
+    ensures spelled { IfOk result (IsSpelled version) }
+    ensures gives { ReadsAs result (command_at version word.now words.old) words.new }
 {
     if word == b"leave".as_slice() {
         return Ok(Command::Leave);
@@ -27,6 +29,9 @@ fn read_command(word: &[u8], words: &mut Parts<'_>) -> Result<Command, Misspelle
     let Some(name) = read_name(word) else {
         return Err(Misspelled);
     };
+    if !CommandSet::of_version(version).has(name) {
+        return Err(Misspelled);
+    }
     match operands(name, words) {
         Ok(command) => Ok(command),
         Err(_) => Err(Misspelled),
@@ -34,15 +39,20 @@ fn read_command(word: &[u8], words: &mut Parts<'_>) -> Result<Command, Misspelle
 }
 
 /// The command that begins with this word, and its reply.
-pub fn read_said(word: &[u8], words: &mut Parts<'_>) -> Result<(Command, Reply), Misspelled>
+pub fn read_said(
+    word: &[u8],
+    words: &mut Parts<'_>,
+    version: u8,
+) -> Result<(Command, Reply), Misspelled>
     ensures found { IfOk result
         (λ said. word.now ∷ words.old ≡ command_words said.0 ++ codes "=" ∷ (reply_words said.1 ++ words.new)) }
-    ensures range { IfOk result (λ said. IsCommand said.0 × IsReply said.0 said.1) }
+    ensures range { IfOk result
+        (λ said. IsCommand said.0 × IsReply said.0 said.1 × IsSpelled version said.0) }
     ensures gives { (seat : ℕ) → MatchResult result
-        (λ said. said_at seat word.now words.old ≡ Some (entries.Said seat said.0 said.1, words.new))
-        (λ _. said_at seat word.now words.old ≡ None) }
+        (λ said. said_at version seat word.now words.old ≡ Some (entries.Said seat said.0 said.1, words.new))
+        (λ _. said_at version seat word.now words.old ≡ None) }
 {
-    let command = read_command(word, words)?;
+    let command = read_command(word, words, version)?;
     literal(words, b"=")?;
     let reply = read_reply(words, &command)?;
     Ok((command, reply))

@@ -1,4 +1,4 @@
-ghost use Rattle.std.specs.Prelude.{◌≡◌, ◌<◌, ℕ, ◌∷◌, ◌++◌, decimal, IfOk};
+ghost use Rattle.std.specs.Prelude.{◌≡◌, ◌<◌, ◌∷◌, ◌++◌, decimal, IfOk};
 ghost use Rattle.script_text.specs.declared.script.Form.{Form};
 ghost use Rattle.reply_text.specs.read.Tokens.{ReadsAs};
 ghost use Rattle.reply_text.specs.write.Entries.{entry_words};
@@ -9,14 +9,19 @@ use crate::read::misspelled::Misspelled;
 use crate::read::said::read_said;
 use crate::read::tokens::{count, literal, next_word, number};
 use heap_model::Entry;
-use script_text::Parts;
+use script_text::{Parts, Preamble};
 
 /// An entry of this seat, after its number.
-pub fn read_seat_entry(seat: u8, words: &mut Parts<'_>) -> Result<Entry, Misspelled>
+pub fn read_seat_entry(
+    seat: u8,
+    words: &mut Parts<'_>,
+    preamble: &Preamble,
+) -> Result<Entry, Misspelled>
     ensures found { IfOk result
         (λ entry. decimal seat ∷ words.old ≡ entry_words entry ++ words.new) }
-    ensures range { (form : Form) (seats : ℕ) → seat < seats → IfOk result (IsWritten form seats) }
-    ensures gives { ReadsAs result (seat_entry seat words.old) words.new }
+    ensures range { (form : Form) → seat < preamble.now.heap.seats →
+        IfOk result (IsWritten form preamble.now) }
+    ensures gives { ReadsAs result (seat_entry preamble.now.version seat words.old) words.new }
 {
     let word = next_word(words)?;
     if word == b"takes".as_slice() {
@@ -32,7 +37,7 @@ pub fn read_seat_entry(seat: u8, words: &mut Parts<'_>) -> Result<Entry, Misspel
         let phase = number(words, u64::MAX)?;
         return Ok(Entry::Answers { seat, phase });
     }
-    let (command, reply) = read_said(word, words)?;
+    let (command, reply) = read_said(word, words, preamble.version)?;
     Ok(Entry::Said {
         seat,
         command,

@@ -1,5 +1,6 @@
 ghost use Rattle.std.specs.Prelude.{◌≡◌, ℕ, ◌∷◌, ◌++◌, codes, IfOk};
 ghost use Rattle.heap_model.specs.declared.command.TurnCommand.TheVariants as commands;
+ghost use Rattle.script_text.specs.declared.preamble.Preamble.{Preamble};
 ghost use Rattle.script_text.specs.declared.script.Form.TheVariants.{Play};
 ghost use Rattle.reply_text.specs.read.Tokens.{ReadsAs};
 ghost use Rattle.reply_text.specs.read.TurnAnswers.{waiting_at, turning_at, cycling_at};
@@ -56,7 +57,7 @@ fn cycling(words: &mut Parts<'_>) -> Result<TurnReply, Misspelled>
 fn read_turns(words: &mut Parts<'_>) -> Result<Entry, Misspelled>
     ensures found { IfOk result
         (λ entry. codes "c" ∷ codes "turns" ∷ words.old ≡ entry_words entry ++ words.new) }
-    ensures range { (seats : ℕ) → IfOk result (IsWritten Play seats) }
+    ensures range { (preamble : Preamble) → IfOk result (IsWritten Play preamble) }
     ensures gives { ReadsAs result (turns_at words.old) words.new }
 {
     let n = number(words, MOST_TURNS.into())? as u32;
@@ -70,7 +71,7 @@ fn read_turns(words: &mut Parts<'_>) -> Result<Entry, Misspelled>
 fn read_cycle(words: &mut Parts<'_>) -> Result<Entry, Misspelled>
     ensures found { IfOk result
         (λ entry. codes "c" ∷ codes "cycle" ∷ words.old ≡ entry_words entry ++ words.new) }
-    ensures range { (seats : ℕ) → IfOk result (IsWritten Play seats) }
+    ensures range { (preamble : Preamble) → IfOk result (IsWritten Play preamble) }
     ensures gives { ReadsAs result (cycle_at words.old) words.new }
 {
     literal(words, b"=")?;
@@ -83,7 +84,7 @@ fn read_cycle(words: &mut Parts<'_>) -> Result<Entry, Misspelled>
 pub fn read_turned(word: &[u8], words: &mut Parts<'_>, form: Form) -> Result<Entry, Misspelled>
     ensures found { IfOk result
         (λ entry. codes "c" ∷ word.now ∷ words.old ≡ entry_words entry ++ words.new) }
-    ensures range { (seats : ℕ) → IfOk result (IsWritten form seats) }
+    ensures range { (preamble : Preamble) → IfOk result (IsWritten form preamble) }
     ensures gives { ReadsAs result (turned_at form word.now words.old) words.new }
 {
     let Form::Play = form else {

@@ -1,5 +1,6 @@
 ghost use Rattle.std.specs.Prelude.{◌≡◌, ◌∷◌, ◌++◌, [], decimal, IfOk, IsSome, OnOk};
 ghost use Rattle.script_text.specs.declared.script.Form.TheVariants.{Play};
+ghost use Rattle.script_text.specs.Preamble.{usual_board};
 ghost use Rattle.script_text.specs.Text.{text_of};
 ghost use Rattle.reply_text.specs.write.Brief.{brief_lines, commands_line, work_line, mark_lines};
 
@@ -58,11 +59,12 @@ fn push_mark(text: &mut Vec<u8>, mark: Option<SpaceMark>) -> Result<(), Memory>
 pub fn render_brief(alloc: Global, history: &History) -> Result<Vec<u8>, Memory>
     requires play { history.now.form ≡ Play }
     requires marked { IsSome history.now.mark }
+    requires board { history.now.version ≡ 1 → history.now.heap.board ≡ usual_board }
     ensures { IfOk result (λ text. text.items ≡ text_of (brief_lines history.now)) }
 {
     let counts = BriefCounts::of(history.entries.as_slice());
     let mut text = Vec::from_slice(alloc, b"brief 1\n")?;
-    push_heap_line(&mut text, &history.heap)?;
+    push_heap_line(&mut text, &history.preamble())?;
     push_commands(&mut text, &counts)?;
     push_work(&mut text, &counts)?;
     push_mark(&mut text, history.mark)?;

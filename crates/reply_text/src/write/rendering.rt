@@ -1,7 +1,6 @@
 ghost use Rattle.std.specs.Prelude.{◌≡◌, [], ◌∷◌, ◌++◌, codes, decimal, IfOk, OnOk};
 ghost use Rattle.script_text.specs.Text.{words_with_spaces};
 ghost use Rattle.reply_text.specs.write.Entries.{entry_text};
-ghost use Rattle.reply_text.specs.Written.{HasText};
 
 use crate::write::replies::{push_id, push_reply, push_turn_reply};
 use heap_model::{Entry, Memory};
@@ -81,9 +80,8 @@ pub fn push_entry(text: &mut Vec<u8>, entry: &Entry) -> Result<(), Memory>
     }
 }
 
-/// The line of an entry, without a line feed.
+/// The line of an entry, without a line feed, as it stands in a text of each version that may have the entry.
 pub fn render_entry(alloc: Global, entry: &Entry) -> Result<Vec<u8>, Memory>
-    requires { HasText entry.now }
     ensures { IfOk result (λ text. text.items ≡ entry_text entry.now) }
 {
     let mut text = Vec::new(alloc);

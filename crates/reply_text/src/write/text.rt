@@ -1,5 +1,7 @@
 ghost use Rattle.std.specs.Prelude.{◌≡◌, [], ◌∷◌, ◌++◌, map, OnOk, IfOk};
 ghost use Rattle.std.specs.List.{AllByRecursion};
+ghost use Rattle.script_text.specs.declared.script.Form.TheVariants.{Play, Run};
+ghost use Rattle.script_text.specs.Preamble.{usual_board};
 ghost use Rattle.script_text.specs.Text.{text_of};
 ghost use Rattle.reply_text.specs.declared.history_line.HistoryLine.TheVariants as lines;
 ghost use Rattle.reply_text.specs.History.{IsHistory, IsSpellable, form_line, history_lines, lines_with_mark, space_line};
@@ -12,15 +14,36 @@ use heap_model::{Entry, Memory};
 use script_text::{Form, push_heap_line, push_named};
 use std::alloc::Global;
 
-/// Appends the first line and its line feed.
-fn push_form(text: &mut Vec<u8>, form: Form) -> Result<(), Memory>
-    ensures { OnOk result (text.new.items ≡ text.old.items ++ (form_line form ++ 10 ∷ [])) }
+/// The first line of a play and its line feed.
+fn play_line(version: u8) -> &'static [u8]
+    ensures { result.now ≡ form_line version Play ++ 10 ∷ [] }
+{
+    if version == 2 {
+        b"history 2 play\n"
+    } else {
+        b"history 1 play\n"
+    }
+}
+
+/// The first line of a run and its line feed.
+fn run_line(version: u8) -> &'static [u8]
+    ensures { result.now ≡ form_line version Run ++ 10 ∷ [] }
+{
+    if version == 2 {
+        b"history 2 run\n"
+    } else {
+        b"history 1 run\n"
+    }
+}
+
+/// The first line and its line feed.
+fn form_line(version: u8, form: Form) -> &'static [u8]
+    ensures { result.now ≡ form_line version form ++ 10 ∷ [] }
 {
     match form {
-        Form::Play => text.extend_from_slice(b"history 1 play\n")?,
-        Form::Run => text.extend_from_slice(b"history 1 run\n")?,
+        Form::Play => play_line(version),
+        Form::Run => run_line(version),
     }
-    Ok(())
 }
 
 /// Appends the lines of entries, each with its line feed.
@@ -79,9 +102,8 @@ fn push_marked(text: &mut Vec<u8>, mark: Option<SpaceMark>, entries: &[Entry]) -
 fn render(alloc: Global, history: &History) -> Result<Vec<u8>, Memory>
     ensures { IfOk result (λ text. text.items ≡ text_of (history_lines history.now)) }
 {
-    let mut text = Vec::new(alloc);
-    push_form(&mut text, history.form)?;
-    push_heap_line(&mut text, &history.heap)?;
+    let mut text = Vec::from_slice(alloc, form_line(history.version, history.form))?;
+    push_heap_line(&mut text, &history.preamble())?;
     push_marked(&mut text, history.mark, history.entries.as_slice())?;
     push_end(&mut text, history.end_used)?;
     Ok(text)
@@ -89,7 +111,8 @@ fn render(alloc: Global, history: &History) -> Result<Vec<u8>, Memory>
 
 /// The text of the history, each line with its line feed.
 pub fn render_history(alloc: Global, history: &History) -> Result<Vec<u8>, Memory>
-    requires { AllByRecursion HasText history.now.entries }
+    requires spelled { AllByRecursion (HasText history.now.version) history.now.entries }
+    requires board { history.now.version ≡ 1 → history.now.heap.board ≡ usual_board }
     ensures text { IfOk result (λ text. text.items ≡ text_of (history_lines history.now)) }
     // Read again, the text is this history.
     ensures again { IsSpellable history.now →

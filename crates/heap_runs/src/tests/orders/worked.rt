@@ -89,7 +89,7 @@ fn logs_of(alloc: Global, seats: &str, freed: Option<u32>) -> Result<Vec<Vec<Ent
 #[test]
 fn finds_orders_of_worked_logs(rt: HostRuntime) -> Result<(), Fail> {
     let alloc = rt.alloc();
-    let heap = Heap::make(1, 0, 2).ok_or("the limits")?;
+    let heap = Heap::make(1, 0, 2, 32).ok_or("the limits")?;
     for (seats, freed, steps, wanted) in ROWS {
         let logs = logs_of(alloc, seats, freed)?;
         let (end, order) = order_of(alloc, heap, &logs, &[], steps)?;

@@ -56,7 +56,7 @@ fn may_follow(
 /// whoever claims the second group has its record, and the other is refused.
 #[test]
 fn one_of_two_gets_the_last_group(rt: HostRuntime) -> Result<(), Fail> {
-    let heap = Heap::make(2, 0, 2).ok_or("the limits")?;
+    let heap = Heap::make(2, 0, 2, 32).ok_or("the limits")?;
     for _ in 0..RACES {
         let closed = run_two(&rt, rt.alloc(), heap, Task::LongRecord)?.ok_or("a seat hasn't left")?;
         let logs = closed.logs();

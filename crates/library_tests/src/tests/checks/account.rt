@@ -113,7 +113,7 @@ const ENTRIES: &[&str] = &[
 #[test]
 fn accepts_what_keeps_the_rules(rt: HostRuntime) -> Result<(), Fail> {
     let alloc = rt.alloc();
-    let heap = Heap::make(2, 4, 2).ok_or("the limits")?;
+    let heap = Heap::make(2, 4, 2, 32).ok_or("the limits")?;
     let mut graph = Graph::new(alloc, heap)?;
     let mut account = Account::new(alloc, heap)?;
     for line in ENTRIES {

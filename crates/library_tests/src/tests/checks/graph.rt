@@ -123,7 +123,7 @@ const ENTRIES: &[&str] = &[
 #[test]
 fn accepts_no_other_commands_and_replies(rt: HostRuntime) -> Result<(), Fail> {
     let alloc = rt.alloc();
-    let heap = Heap::make(1, 0, 2).ok_or("the limits")?;
+    let heap = Heap::make(1, 0, 2, 32).ok_or("the limits")?;
     let mut graph = Graph::new(alloc, heap)?;
     for (command, reply) in UNWRITTEN {
         let given = graph.apply(&Entry::Said {
@@ -140,7 +140,7 @@ fn accepts_no_other_commands_and_replies(rt: HostRuntime) -> Result<(), Fail> {
 #[test]
 fn accepts_what_a_growing_heap_says(rt: HostRuntime) -> Result<(), Fail> {
     let alloc = rt.alloc();
-    let heap = Heap::make(1, 0, 2).ok_or("the limits")?;
+    let heap = Heap::make(1, 0, 2, 32).ok_or("the limits")?;
     let mut graph = Graph::new(alloc, heap)?;
     for line in ENTRIES {
         let (line, verdict) = line.split_once(" => ").ok_or("an entry has a verdict")?;

@@ -10,6 +10,7 @@ use playing::{parted, play};
 use reply_text::read_history;
 use std::test::Fail;
 
+mod boards;
 mod calling;
 mod opening;
 mod playing;

@@ -16,7 +16,7 @@ pub(super) fn machine_of(
     spine: u16,
     seats: u8,
 ) -> Result<Machine, Fail> {
-    let heap = Heap::make(groups, spine, seats).ok_or("the limits")?;
+    let heap = Heap::make(groups, spine, seats, 32).ok_or("the limits")?;
     Ok(Machine::make(alloc, heap)?)
 }
 

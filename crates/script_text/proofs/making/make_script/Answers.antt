@@ -15,7 +15,7 @@ loop-number-preserved c =
       range = λ form. made_lines_stay_in_grammar form c.args.seats c.loop-number.number _ _ _ _ c.requires.seats.0 c.line.ensures.range c.line.ensures.made c.in_ok-push.ensures.ok (before.range form);
     }
 
-of_form : (c : goal.After-loop-number) (form : Form) → IsOfForm form (record { heap = made_heap c.args.seats; lines = c.loop-number.made })
+of_form : (c : goal.After-loop-number) (form : Form) → IsOfForm form (record { version = 1; heap = made_heap c.args.seats; lines = c.loop-number.made })
 of_form c form = IsOfForm-made form c.args.start c.args.seats c.loop-number.number _ c.requires.seats (omega arith) c.loop-number.invariant.made (c.loop-number.invariant.range form)
 
 pub returns-clause-play : goal.returns-clause-play

@@ -10,7 +10,7 @@ use Rattle.script_text.proofs.Whole.{IsScript-written}
 use Rattle.script_text.proofs.text.write_script.Goals as goal
 
 again : (form : Form) (script : Script) (result : Result (Vec ℕ Global) Memory) → IsOfForm form script →
-    IfOk result (λ text. text.items ≡ text_of (script_lines script.heap script.lines)) → IfOk result (λ text. IsScript form text.items script)
+    IfOk result (λ text. text.items ≡ text_of (script_lines script)) → IfOk result (λ text. IsScript form text.items script)
 again form script (Ok text) h e = IsScript-written form script text.items e h
 again form script (Err memory) h e = tt
 

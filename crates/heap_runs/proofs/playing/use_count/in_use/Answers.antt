@@ -10,7 +10,7 @@ overflow_cast-result c =
     let all : take c.loop-entry.entry-index entries ≡ entries = take_all c.loop-entry.entry-index entries (omega (arith, c.loop-entry-test.false)) in
     let gained : c.loop-entry.gained ≡ fragments_gained c.args.heap.now entries = c.loop-entry.invariant.gained ∙ ap (fragments_gained c.args.heap.now) all in
     let lost : c.loop-entry.lost ≡ fragments_lost entries = c.loop-entry.invariant.lost ∙ ap fragments_lost all in
-    let within = gained_within c.args.heap.now entries c.requires.limits.some_group c.requires.played.legal in
+    let within = gained_within c.args.heap.now entries c.requires.limits c.requires.played.legal in
     let most = c.requires.limits.groups_fit in
     omega (arith, gained, lost, within, most)
 

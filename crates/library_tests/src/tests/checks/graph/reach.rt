@@ -75,7 +75,7 @@ const EMPTY: &[&str] = &["0 leave = ok", "1 leave = ok"];
 #[test]
 fn reaches_what_a_path_leads_to(rt: HostRuntime) -> Result<(), Fail> {
     let alloc = rt.alloc();
-    let heap = Heap::make(256, 1024, 3).ok_or("the limits")?;
+    let heap = Heap::make(256, 1024, 3, 32).ok_or("the limits")?;
     let mut graph = Graph::new(alloc, heap)?;
     same(
         &rt,
@@ -114,7 +114,7 @@ const FRAGMENTS: [(Id, u32); 10] = [
 #[test]
 fn counts_fragments(rt: HostRuntime) -> Result<(), Fail> {
     let alloc = rt.alloc();
-    let heap = Heap::make(256, 1024, 3).ok_or("the limits")?;
+    let heap = Heap::make(256, 1024, 3, 32).ok_or("the limits")?;
     let mut graph = Graph::new(alloc, heap)?;
     for line in BUILT {
         graph.apply(&entry_of(alloc, line)?)?;

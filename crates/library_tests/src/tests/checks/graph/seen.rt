@@ -47,7 +47,7 @@ const ROWS: &[(&str, u8, u8, u32)] = &[
 #[test]
 fn keeps_the_stamp_of_the_cell_that_was_read(rt: HostRuntime) -> Result<(), Fail> {
     let alloc = rt.alloc();
-    let heap = Heap::make(1, 0, 2).ok_or("the limits")?;
+    let heap = Heap::make(1, 0, 2, 32).ok_or("the limits")?;
     let mut graph = Graph::new(alloc, heap)?;
     for &(line, seat, register, stamp) in ROWS {
         graph.apply(&entry_of(alloc, line)?)?;

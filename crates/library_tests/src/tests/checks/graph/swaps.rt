@@ -36,7 +36,7 @@ fn given(graph: &mut Graph, seat: u8, command: Command, reply: Reply) -> Result<
 #[test]
 fn swaps_where_the_field_is_as_it_was_read(rt: HostRuntime) -> Result<(), Fail> {
     let alloc = rt.alloc();
-    let heap = Heap::make(1, 0, 2).ok_or("the limits")?;
+    let heap = Heap::make(1, 0, 2, 32).ok_or("the limits")?;
     let mut graph = Graph::new(alloc, heap)?;
     for (seat, command, reply, legal) in [
         (0, Num { d: 1, n: 5 }, Done, true),
@@ -86,7 +86,7 @@ fn swaps_where_the_field_is_as_it_was_read(rt: HostRuntime) -> Result<(), Fail> 
 #[test]
 fn refuses_a_cas_as_a_set(rt: HostRuntime) -> Result<(), Fail> {
     let alloc = rt.alloc();
-    let heap = Heap::make(1, 0, 2).ok_or("the limits")?;
+    let heap = Heap::make(1, 0, 2, 32).ok_or("the limits")?;
     let mut graph = Graph::new(alloc, heap)?;
     for (command, reply, legal) in [
         (New { d: 2, fields: 2 }, Made(OBJECT), true),

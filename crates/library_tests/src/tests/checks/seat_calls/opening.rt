@@ -14,7 +14,14 @@ use std::test::Fail;
 
 /// The one seat of a heap of one group and six spine words that opens, and the heap's collector.
 pub fn opening(alloc: Global) -> Result<(Seat, Collector), Fail> {
-    let heap = Heap::make(1, 6, 1).ok_or("the limits")?;
+    let heap = Heap::make(1, 6, 1, 32).ok_or("the limits")?;
+    lone_seat(alloc, heap)
+}
+
+/// A seat of a heap that opens, the last one, and the heap's collector.
+pub fn lone_seat(alloc: Global, heap: Heap) -> Result<(Seat, Collector), Fail>
+    requires { IsHeap heap }
+{
     let (mut holders, collector) = HeapTable::make::<Log, Log>(alloc, heap)?;
     let Some(holder) = holders.pop() else {
         return Err(Fail::new("no seat"));

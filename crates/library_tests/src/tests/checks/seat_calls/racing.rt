@@ -187,7 +187,7 @@ fn have_swapped(rt: &impl Abort, closed: &Closed, used: &[u32]) {
 #[test]
 fn two_seats_swap_one_field(rt: HostRuntime) -> Result<(), Fail> {
     let alloc = rt.alloc();
-    let heap = Heap::make(16, 0, 2).ok_or("the limits")?;
+    let heap = Heap::make(16, 0, 2, 32).ok_or("the limits")?;
     let (first, second, collector) = two_seats(alloc, heap)?;
     let Raced {
         mut first,

@@ -9,7 +9,7 @@ use std::test::Fail;
 #[test]
 fn two_seats_answer_as_due(rt: HostRuntime) -> Result<(), Fail> {
     let alloc = rt.alloc();
-    let heap = Heap::make(1, 0, 2).ok_or("the limits")?;
+    let heap = Heap::make(1, 0, 2, 32).ok_or("the limits")?;
     let (mut first, mut second, _) = two_seats(alloc, heap)?;
     for (number, command, reply) in swaps::answers() {
         let seat = if number == 0 { &mut first } else { &mut second };

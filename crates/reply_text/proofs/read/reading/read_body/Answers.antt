@@ -5,7 +5,7 @@ pub loop-line-init : goal.loop-line-init
 loop-line-init c = record {
   counted = rw c.new-body.ensures.empty refl;
   few = omega arith;
-  range = c.new-body.ensures.range c.args.seats;
+  range = c.new-body.ensures.range c.args.preamble.now;
   found = rw c.new-body.ensures.empty (search rules);
   rest = rw c.new-body.ensures.stage (search rules);
 }

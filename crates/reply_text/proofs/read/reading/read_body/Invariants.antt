@@ -10,7 +10,7 @@ abbrev pub invariant-loop-line : goal.invariant-loop-line
 invariant-loop-line l = record {
   counted : l.number ≡ length (lines_read l.body) + 3;
   few : l.number ≤ too_many;
-  range : IsBody l.form l.seats l.body;
+  range : IsBody l.form l.preamble l.body;
   found : l.fn.lines ≡ map history_line (lines_read l.body) ++ l.line-iterator;
-  rest : history_lines_fault l.form l.seats (first_stage l.form) 3 l.fn.lines ≡ history_lines_fault l.form l.seats l.body.stage l.number l.line-iterator;
+  rest : history_lines_fault l.form l.preamble (first_stage l.form) 3 l.fn.lines ≡ history_lines_fault l.form l.preamble l.body.stage l.number l.line-iterator;
 }

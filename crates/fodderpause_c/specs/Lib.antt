@@ -1,0 +1,11 @@
+pub mod Calls
+pub mod Closing
+pub mod Codes
+pub mod Folding
+pub mod Inner
+pub mod Opening
+pub mod Parties
+pub mod Phases
+pub mod Pointers
+pub mod Replies
+pub mod Turning

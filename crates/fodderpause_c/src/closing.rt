@@ -1,0 +1,61 @@
+ghost use Rattle.std.specs.Prelude.{◌≡◌, None, MatchResult};
+ghost use Rattle.fodderpause_c.specs.Closing.{IsOver, RefusesClose, Drops, DropsAll, Closes, ClosesAll};
+
+use crate::codes::answer_code;
+use crate::handle::Handle;
+use crate::party::Party;
+use crate::refusal::Refusal;
+use std::alloc::Global;
+
+/// Lets go what is behind the handle.
+fn let_go(alloc: Global, party: &mut Handle) -> Result<(), Refusal>
+    ensures { Drops party.old.pointer.party party.new.pointer.party result }
+{
+    match party.take(alloc) {
+        Some(_) => Ok(()),
+        None => Err(Refusal::NoParty),
+    }
+}
+
+/// Whether it is a collector that has taken in every seat.
+fn is_over(party: &Party) -> Result<(), Refusal>
+    ensures { MatchResult result (λ _. IsOver party.now) (RefusesClose party.now) }
+{
+    let Party::OfCollector(collector) = party else {
+        return Err(Refusal::NoParty);
+    };
+    if !collector.all_folded() {
+        return Err(Refusal::NotFolded);
+    }
+    Ok(())
+}
+
+/// Lets go the table of the collector behind the handle, once that has taken in every seat.
+fn close(alloc: Global, collector: &mut Handle) -> Result<(), Refusal>
+    ensures { Closes collector.old.pointer.party collector.new.pointer.party result }
+{
+    let Some(party) = collector.take(alloc) else {
+        return Err(Refusal::NoParty);
+    };
+    if let Err(refusal) = is_over(&*party) {
+        collector.put(party);
+        return Err(refusal);
+    }
+    Ok(())
+}
+
+/// Lets go a seat or a collector. What a seat kept stays taken, and a heap of which a seat was let go can't be closed.
+#[unsafe(no_mangle)]
+pub extern "C" fn fodderpause_drop(alloc: Global, party: &mut Handle) -> u32
+    ensures { DropsAll party.old.pointer.party party.new.pointer.party result }
+{
+    answer_code(let_go(alloc, party))
+}
+
+/// Closes the heap of a collector that has taken in every seat: its memory is given back.
+#[unsafe(no_mangle)]
+pub extern "C" fn fodderpause_close(alloc: Global, collector: &mut Handle) -> u32
+    ensures { ClosesAll collector.old.pointer.party collector.new.pointer.party result }
+{
+    answer_code(close(alloc, collector))
+}

@@ -1,0 +1,74 @@
+ghost use Rattle.std.specs.Prelude.{◌≡◌, true, MatchResult};
+ghost use Rattle.heap_model.specs.calls.SeatCalls.{IsReady, HasNumber};
+ghost use Rattle.mutator_seat.specs.Resting.{seat_state};
+ghost use Rattle.fodderpause_c.specs.Calls.{IsGiven, Refuses, LacksNumber, MayCall};
+
+use crate::party::HeapSeat;
+use crate::refusal::Refusal;
+use crate::seat_work::SeatWork;
+use heap_model::{Command, Reply, SeatCalls};
+
+/// The whole call of a command.
+#[derive(Drop)]
+pub struct CommandWork {
+    pub command: Command,
+}
+
+/// Whether a name or a stamp is left where the command uses one up.
+fn numbered(seat: &HeapSeat, command: &Command) -> Result<(), Refusal>
+    ensures { MatchResult result (λ _. HasNumber (seat_state seat.now) command.now) (LacksNumber (seat_state seat.now) command.now) }
+{
+    match *command {
+        Command::New { .. } | Command::Array { .. } => {
+            if seat.names_left() == 0 {
+                return Err(Refusal::NamesSpent);
+            }
+            Ok(())
+        }
+        Command::Set { .. } | Command::Cas { .. } => {
+            if seat.stamps_left() == 0 {
+                return Err(Refusal::StampsSpent);
+            }
+            Ok(())
+        }
+        Command::Get { .. }
+        | Command::Num { .. }
+        | Command::Nil { .. }
+        | Command::Copy { .. }
+        | Command::Same { .. }
+        | Command::Len { .. }
+        | Command::Poll
+        | Command::Collect
+        | Command::Leave => Ok(()),
+    }
+}
+
+/// Whether the seat may be given the command.
+fn allowed(seat: &HeapSeat, command: &Command) -> Result<(), Refusal>
+    ensures { MatchResult result (λ _. MayCall (seat_state seat.now) command.now) (Refuses (seat_state seat.now) command.now) }
+{
+    if matches!(command, Command::Collect) || !command.is_in_range() {
+        return Err(Refusal::OutOfRange);
+    }
+    if seat.left() {
+        return Err(Refusal::HasLeft);
+    }
+    numbered(seat, command)?;
+    if seat.spare() < 2 * command.need() as usize + 4 {
+        return Err(Refusal::EntriesSpent);
+    }
+    Ok(())
+}
+
+impl SeatWork for CommandWork {
+    ghost use Rattle.fodderpause_c.specs.Calls.{Calls};
+
+    type Answer = Reply;
+
+    ghost comes_to = { λ work old new answer. Calls work.command old new answer };
+
+    fn work(&self, seat: &mut HeapSeat) -> Result<Reply, Refusal> {
+        allowed(seat, &self.command)?;
+        Ok(seat.call(&self.command))
+    }
+}

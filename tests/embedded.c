@@ -1,0 +1,152 @@
+/*
+ * Brings the library for C to each code that a short program can bring it to, and counts the memory that its calls take. Says a line for each that is
+ * otherwise, and nothing where all is well. Linked with -Wl,--wrap=malloc,--wrap=realloc.
+ */
+#include "fodderpause.h"
+
+#include <stdio.h>
+
+static unsigned long taken;
+static int failed;
+
+void *__real_malloc(size_t size);
+void *__real_realloc(void *block, size_t size);
+
+void *__wrap_malloc(size_t size)
+{
+    taken++;
+    return __real_malloc(size);
+}
+
+void *__wrap_realloc(void *block, size_t size)
+{
+    taken++;
+    return __real_realloc(block, size);
+}
+
+static void is(const char *what, unsigned long long got, unsigned long long wanted)
+{
+    if (got != wanted) {
+        printf("%s: %llu, and not %llu\n", what, got, wanted);
+        failed = 1;
+    }
+}
+
+static fodderpause_handle collector = FODDERPAUSE_NONE;
+static fodderpause_handle seats[2] = {FODDERPAUSE_NONE, FODDERPAUSE_NONE};
+
+static void open_refused(void)
+{
+    is("a poll of nobody", fodderpause_poll(&seats[0]).code, FODDERPAUSE_NO_PARTY);
+    is("no groups", fodderpause_make(0, 0, &collector, seats, 2), FODDERPAUSE_OUT_OF_RANGE);
+    is("too many groups", fodderpause_make(4097, 0, &collector, seats, 2), FODDERPAUSE_OUT_OF_RANGE);
+    is("too many spine words", fodderpause_make(1, 16385, &collector, seats, 2), FODDERPAUSE_OUT_OF_RANGE);
+    is("nothing taken so far", taken, 0);
+    is("open", fodderpause_make(2, 8, &collector, seats, 2), FODDERPAUSE_DONE);
+    is("open again", fodderpause_make(2, 8, &collector, seats, 2), FODDERPAUSE_IS_HELD);
+}
+
+static void call_refused(fodderpause_handle *seat)
+{
+    is("register 16", fodderpause_new(seat, 16, 2).code, FODDERPAUSE_OUT_OF_RANGE);
+    is("register 0 written", fodderpause_nil(seat, 0).code, FODDERPAUSE_OUT_OF_RANGE);
+    is("48 fields", fodderpause_new(seat, 1, 48).code, FODDERPAUSE_OUT_OF_RANGE);
+    is("index 4097", fodderpause_get(seat, 1, 0, 4097).code, FODDERPAUSE_OUT_OF_RANGE);
+    is("number 2^30", fodderpause_num(seat, 1, 1u << 30).code, FODDERPAUSE_OUT_OF_RANGE);
+    is("a field of nil", fodderpause_get(seat, 2, 1, 0).code, FODDERPAUSE_NO_OBJECT);
+    is("field 32 of the board", fodderpause_set(seat, 0, 32, 1).code, FODDERPAUSE_NO_FIELD);
+    fodderpause_made made = fodderpause_array(seat, 1, 40);
+    is("ten spine words of eight", made.code, FODDERPAUSE_SPINE_FULL);
+    is("needed", made.need, 10);
+    is("a seat's turn", fodderpause_turn(seat).code, FODDERPAUSE_NO_PARTY);
+    is("a collector's poll", fodderpause_poll(&collector).code, FODDERPAUSE_NO_PARTY);
+    is("seat 2 behind", fodderpause_behind(seat, 2).code, FODDERPAUSE_OUT_OF_RANGE);
+    is("a cycle noted", fodderpause_note_cycle(seat, 0), FODDERPAUSE_NOT_FOUND);
+    is("a seat folded in", fodderpause_fold_in(&collector, seat), FODDERPAUSE_HAS_NOT_LEFT);
+    is("closed", fodderpause_close(&collector), FODDERPAUSE_NOT_FOLDED);
+}
+
+/* The heap has 32 fragments, of which the board has eleven. */
+static void call(fodderpause_handle *seat)
+{
+    fodderpause_made made = fodderpause_new(seat, 1, 2);
+    is("a record", made.code, FODDERPAUSE_DONE);
+    is("its seat", made.seat, 0);
+    is("its number", made.count, 0);
+    is("a number", fodderpause_num(seat, 2, 7).code, FODDERPAUSE_DONE);
+    fodderpause_number was = fodderpause_set(seat, 1, 0, 2);
+    is("the stamp before", was.number, 0);
+    fodderpause_cell cell = fodderpause_get(seat, 3, 1, 0);
+    is("what the field holds", cell.kind, FODDERPAUSE_NUMBER);
+    is("which number", cell.number, 7);
+    fodderpause_swap swap = fodderpause_cas(seat, 1, 0, 2, 1);
+    is("swapped though register 2 wasn't read there", swap.swapped, 0);
+    is("the stamp there", swap.stamp, cell.stamp);
+    is("swapped", fodderpause_cas(seat, 1, 0, 3, 1).swapped, 1);
+    is("its own record", fodderpause_get(seat, 4, 1, 0).kind, FODDERPAUSE_OBJECT);
+    is("the same", fodderpause_same(seat, 1, 4).number, 1);
+    is("not the same", fodderpause_same(seat, 1, 2).number, 0);
+    is("the board", fodderpause_len(seat, 0).number, 32);
+    is("names", fodderpause_names_left(seat).number, 4294967294u);
+    is("stamps", fodderpause_stamps_left(seat).number, 67108861u);
+    is("47 fields", fodderpause_new(seat, 5, 47).code, FODDERPAUSE_DONE);
+    made = fodderpause_new(seat, 6, 47);
+    is("47 fields more", made.code, FODDERPAUSE_FULL);
+    is("sixteen needed", made.need, 16);
+    is("four found", made.found, 4);
+}
+
+/* Every call of a cycle, with the notes of a collect. */
+static void end_cycles(void)
+{
+    is("a look", fodderpause_look(&seats[0]).phase, 0);
+    for (unsigned long turns = 0; turns < 1000000; turns++) {
+        fodderpause_turned turned = fodderpause_turn(&collector);
+        is("a turn", turned.code, FODDERPAUSE_DONE);
+        if (turned.kind == FODDERPAUSE_ENDED) {
+            is("the cycle", turned.cycle, 0);
+            break;
+        }
+        if (turned.kind == FODDERPAUSE_WAITS && turned.seat == 0) {
+            is("an answer", fodderpause_answer(&seats[0]).phase, turned.phase);
+        }
+        if (turned.kind == FODDERPAUSE_WAITS && turned.seat == 1) {
+            fodderpause_behind_told behind = fodderpause_behind(&seats[0], 1);
+            is("the other is behind", behind.behind, 1);
+            is("the other's answer", behind.answered + 1, behind.phase);
+            is("the other's poll", fodderpause_poll(&seats[1]).phase, turned.phase);
+        }
+    }
+    is("the phase", fodderpause_phase(&collector).phase, 7);
+    is("a look again", fodderpause_look(&seats[0]).phase, 7);
+    is("noted", fodderpause_note_cycle(&seats[0], 0), FODDERPAUSE_DONE);
+}
+
+static void close_all(void)
+{
+    for (int k = 0; k < 2; k++) {
+        is("left", fodderpause_leave(&seats[k]).code, FODDERPAUSE_DONE);
+        is("a call behind that", fodderpause_nil(&seats[k], 1).code, FODDERPAUSE_HAS_LEFT);
+        is("a look behind that", fodderpause_look(&seats[k]).code, FODDERPAUSE_HAS_LEFT);
+        is("folded in", fodderpause_fold_in(&collector, &seats[k]), FODDERPAUSE_DONE);
+        is("folded in again", fodderpause_fold_in(&collector, &seats[k]), FODDERPAUSE_NO_PARTY);
+    }
+}
+
+int main(void)
+{
+    open_refused();
+    taken = 0;
+    call_refused(&seats[0]);
+    call(&seats[0]);
+    end_cycles();
+    close_all();
+    is("taken by all these calls", taken, 0);
+    is("closed", fodderpause_close(&collector), FODDERPAUSE_DONE);
+    is("closed again", fodderpause_close(&collector), FODDERPAUSE_NO_PARTY);
+    is("opened again", fodderpause_make(1, 0, &collector, seats, 1), FODDERPAUSE_DONE);
+    is("let go", fodderpause_drop(&seats[0]), FODDERPAUSE_DONE);
+    is("let go", fodderpause_drop(&collector), FODDERPAUSE_DONE);
+    is("let go again", fodderpause_drop(&collector), FODDERPAUSE_NO_PARTY);
+    return failed;
+}
