@@ -27,11 +27,11 @@ value-decimal : (n : ℕ) → n < 2 ^ 64 → digits_value 10 (decimal n) ≡ n
 value-decimal n small = (decimal_is_IsNumeral n small).1
 
 -- what the words of a command tell, by its name and its numbers
-abbrev command_of : List (List ℕ) → Command
+abbrev pub command_of : List (List ℕ) → Command
 command_of [] = Leave
 command_of (word ∷ rest) = unwrap_or (lookup (bytes_eq word) (commands_with (map (digits_value 10) rest))) Leave
 
-command_of-words : (has : CommandSet) (command : Command) → IsScripted has command → command_of (command_words command) ≡ command
+pub command_of-words : (has : CommandSet) (command : Command) → IsScripted has command → command_of (command_words command) ≡ command
 command_of-words has (New d fields) h = rw (value-decimal d (omega arith), value-decimal fields (omega arith)) refl
 command_of-words has (Array d cells) h = rw (value-decimal d (omega arith), value-decimal cells (omega arith)) refl
 command_of-words has (Get d r i) h = rw (value-decimal d (omega arith), value-decimal r (omega arith), value-decimal i (omega arith)) refl

@@ -10,7 +10,7 @@ use Rattle.script_text.specs.Faults.{lines_fault, text_fault}
 use Rattle.script_text.specs.Grammar.{IsText, IsTold, most_lines}
 use Rattle.script_text.specs.HeapLine.{heap_of}
 use Rattle.script_text.specs.Judge.{Judge}
-use Rattle.script_text.specs.Preamble.{IsPreamble, IsVersion}
+use Rattle.script_text.specs.Preamble.{IsPreamble}
 use Rattle.script_text.specs.Reading.{FailsBy, GivesOnly}
 use Rattle.script_text.specs.Text.{sentence, text_of, words_of}
 use Rattle.script_text.specs.Words.{heap_line, heap_words, text_lines}
@@ -39,17 +39,17 @@ GivesOnly-from_read Spells fault (Ok read) one none found failed = λ other h. o
 GivesOnly-from_read Spells fault (Err faults.Memory) one none found failed = tt
 GivesOnly-from_read Spells fault (Err (faults.Line line)) one none found failed = λ other h. let no = none other h in cc
 
--- what is to be known of a kind of text: its first line tells the version, and each line behind is of words that have no fault and tell it
-pub record IsReadable {L : Type 0} (judge : Judge) (header : ℕ → List ℕ) (words : L → List (List ℕ)) (MayFollow : Preamble → L → Type 0) : Type 0 where
-  pub header_above : (version : ℕ) → IsVersion version → IsAbove 31 (header version)
-  pub header_told : (version : ℕ) → IsVersion version → judge.version_of (header version) ≡ Some version
+-- what is to be known of a kind of text: its first line tells the version, which is one that it has, and each line behind is of words that have no fault and tell it
+pub record IsReadable {L : Type 0} (judge : Judge) (header : ℕ → List ℕ) (words : L → List (List ℕ)) (MayFollow : Preamble → L → Type 0) (Has : ℕ → Type 0) : Type 0 where
+  pub header_above : (version : ℕ) → Has version → IsAbove 31 (header version)
+  pub header_told : (version : ℕ) → Has version → judge.version_of (header version) ≡ Some version
   pub above : (front : Preamble) (line : L) → IsPreamble front → MayFollow front line → AllByRecursion (IsAbove 32) (words line)
   pub again : (front : Preamble) (line : L) → IsPreamble front → MayFollow front line → words_of (sentence (words line)) ≡ words line
   pub faultless : (front : Preamble) (line : L) → IsPreamble front → MayFollow front line → judge.words_fault front (words line) ≡ None
   pub tell : List (List ℕ) → L
   pub told : (front : Preamble) (line : L) → IsPreamble front → MayFollow front line → tell (words line) ≡ line
 
-module _ (L : Type 0) (judge : Judge) (header : ℕ → List ℕ) (words : L → List (List ℕ)) (MayFollow : Preamble → L → Type 0) (readable : IsReadable judge header words MayFollow) where
+module _ (L : Type 0) (judge : Judge) (header : ℕ → List ℕ) (words : L → List (List ℕ)) (MayFollow : Preamble → L → Type 0) (Has : ℕ → Type 0) (readable : IsReadable judge header words MayFollow Has) where
   -- no fault is found in the lines of a text
   lines_fault-none : (front : Preamble) (number : ℕ) (lines : List L) → IsPreamble front → AllByRecursion (MayFollow front) lines →
       number + length lines ≤ most_lines + 1 → lines_fault judge front number (map (λ line. sentence (words line)) lines) ≡ None
@@ -59,11 +59,11 @@ module _ (L : Type 0) (judge : Judge) (header : ℕ → List ℕ) (words : L →
       rw (early, readable.again front line is h.0, readable.faultless front line is h.0) (lines_fault-none front (number + 1) lines is h.1 (omega arith))
 
   -- nor in the text
-  pub text_fault-none : (text : List ℕ) (front : Preamble) (behind : List L) → IsText judge.takes header words MayFollow text front behind → text_fault judge text ≡ None
+  pub text_fault-none : (text : List ℕ) (front : Preamble) (behind : List L) → Has front.version → IsText judge.takes header words MayFollow text front behind → text_fault judge text ≡ None
   unfolding text_fault
-  text_fault-none text front behind h =
+  text_fault-none text front behind has h =
       let is = h.told in
-      rw (h.spelled, readable.header_told front.version is.preamble.version, heap_of-heap_line front is.preamble, is.taken)
+      rw (h.spelled, readable.header_told front.version has, heap_of-heap_line front is.preamble, is.taken)
       (lines_fault-none front 3 behind is.preamble is.lines (omega (arith, is.short)))
 
   -- the texts of lines tell the lines
@@ -74,13 +74,13 @@ module _ (L : Type 0) (judge : Judge) (header : ℕ → List ℕ) (words : L →
       rw (readable.again front line is h.0, readable.told front line is h.0, lines-from_texts front lines is h.1) refl
 
   -- two preambles that one text tells are one
-  pub equal_texts_tell_one_preamble : (text : List ℕ) (one other : Preamble) (lines more : List L) → IsText judge.takes header words MayFollow text one lines → IsText judge.takes header words MayFollow text other more → one ≡ other
-  equal_texts_tell_one_preamble text one other lines more f g =
+  pub equal_texts_tell_one_preamble : (text : List ℕ) (one other : Preamble) (lines more : List L) → Has one.version → Has other.version → IsText judge.takes header words MayFollow text one lines → IsText judge.takes header words MayFollow text other more → one ≡ other
+  equal_texts_tell_one_preamble text one other lines more has also f g =
       let spelled : text_lines (header one.version) words one lines ≡ text_lines (header other.version) words other more = sym f.spelled ∙ g.spelled in
       let headers : header one.version ≡ header other.version = cc in
       let heap_lines : heap_line one ≡ heap_line other = cc in
       let versions : ◌≡◌ {A = Option ℕ} (Some one.version) (Some other.version) =
-      sym (readable.header_told one.version f.told.preamble.version) ∙ ap judge.version_of headers ∙ readable.header_told other.version g.told.preamble.version in
+      sym (readable.header_told one.version has) ∙ ap judge.version_of headers ∙ readable.header_told other.version also in
       equal_texts_same_preamble one other f.told.preamble g.told.preamble (cc) heap_lines
 
   -- and so are two lists of lines
@@ -98,9 +98,9 @@ module _ (L : Type 0) (judge : Judge) (header : ℕ → List ℕ) (words : L →
   lines-above front (line ∷ lines) is h = (IsAbove-sentence (words line) (readable.above front line is h.0), lines-above front lines is h.1)
 
   -- what was written of a preamble and lines spells them
-  pub IsText-written : (text : List ℕ) (front : Preamble) (behind : List L) → text ≡ text_of (text_lines (header front.version) words front behind) → IsTold judge.takes MayFollow front behind →
+  pub IsText-written : (text : List ℕ) (front : Preamble) (behind : List L) → Has front.version → text ≡ text_of (text_lines (header front.version) words front behind) → IsTold judge.takes MayFollow front behind →
       IsText judge.takes header words MayFollow text front behind
-  IsText-written text front behind e is =
+  IsText-written text front behind has e is =
       let heap : IsAbove 31 (heap_line front) = IsAbove-sentence (codes "heap" ∷ heap_words front) (heap_words-above front is.preamble) in
-      let above : AllByRecursion (IsAbove 31) (text_lines (header front.version) words front behind) = (readable.header_above front.version is.preamble.version, (heap, lines-above front behind is.preamble is.lines)) in
+      let above : AllByRecursion (IsAbove 31) (text_lines (header front.version) words front behind) = (readable.header_above front.version has, (heap, lines-above front behind is.preamble is.lines)) in
       record { spelled = rw e (lines_of-text_of (text_lines (header front.version) words front behind) above); told = is }

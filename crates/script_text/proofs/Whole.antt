@@ -33,7 +33,7 @@ script_version-header : (version : ℕ) → IsVersion version → script_version
 script_version-header version (inl first) = rw first refl
 script_version-header version (inr second) = rw second refl
 
-script_is_readable : (form : Form) → IsReadable (script_judge form) script_header line_words (IsLine form)
+script_is_readable : (form : Form) → IsReadable (script_judge form) script_header line_words (IsLine form) IsVersion
 script_is_readable form = record {
   header_above = script_header-above;
   header_told = script_version-header;
@@ -46,7 +46,7 @@ script_is_readable form = record {
 
 -- a script has no fault
 pub first_fault-none : (form : Form) (text : List ℕ) (script : Script) → IsScript form text script → first_fault form text ≡ None
-first_fault-none form text script h = text_fault-none Line (script_judge form) script_header line_words (IsLine form) (script_is_readable form) text (preamble_of script) script.lines h
+first_fault-none form text script h = text_fault-none Line (script_judge form) script_header line_words (IsLine form) IsVersion (script_is_readable form) text (preamble_of script) script.lines h.told.preamble.version h
 
 same_parts : (one other : Script) → preamble_of one ≡ preamble_of other → one.lines ≡ other.lines → one ≡ other
 same_parts one other e f = λ i. record { version = (e i).version; heap = (e i).heap; lines = f i }
@@ -55,9 +55,9 @@ same_parts one other e f = λ i. record { version = (e i).version; heap = (e i).
 pub same_script : (form : Form) (text : List ℕ) (one other : Script) → IsScript form text one → IsScript form text other → one ≡ other
 same_script form text one other f g =
     same_parts one other
-    (equal_texts_tell_one_preamble Line (script_judge form) script_header line_words (IsLine form) (script_is_readable form) text (preamble_of one) (preamble_of other) one.lines other.lines f g)
-    (equal_texts_tell_one_list Line (script_judge form) script_header line_words (IsLine form) (script_is_readable form) text (preamble_of one) (preamble_of other) one.lines other.lines f g)
+    (equal_texts_tell_one_preamble Line (script_judge form) script_header line_words (IsLine form) IsVersion (script_is_readable form) text (preamble_of one) (preamble_of other) one.lines other.lines f.told.preamble.version g.told.preamble.version f g)
+    (equal_texts_tell_one_list Line (script_judge form) script_header line_words (IsLine form) IsVersion (script_is_readable form) text (preamble_of one) (preamble_of other) one.lines other.lines f g)
 
 -- what was written of a script is the script again
 pub IsScript-written : (form : Form) (script : Script) (text : List ℕ) → text ≡ text_of (script_lines script) → IsOfForm form script → IsScript form text script
-IsScript-written form script text e h = IsText-written Line (script_judge form) script_header line_words (IsLine form) (script_is_readable form) text (preamble_of script) script.lines e h
+IsScript-written form script text e h = IsText-written Line (script_judge form) script_header line_words (IsLine form) IsVersion (script_is_readable form) text (preamble_of script) script.lines h.preamble.version e h

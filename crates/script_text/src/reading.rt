@@ -70,6 +70,8 @@ fn read_preamble<G: Grammar>(lines: &mut Parts<'_>, grammar: &G) -> Result<Pream
     ensures found { IfOk result
         (λ told. lines.old ≡ G.header grammar.now told.version ∷ heap_line told ∷ lines.new) }
     ensures range { IfOk result IsPreamble }
+    ensures version { IfOk result
+        (λ told. (G.judge grammar.now).version_of (G.header grammar.now told.version) ≡ Some told.version) }
     ensures taken { IfOk result (λ told. (G.judge grammar.now).takes told.heap ≡ true) }
     ensures rest { IfOk result
         (λ told. header_fault (G.judge grammar.now) lines.old ≡ lines_fault (G.judge grammar.now) told 3 lines.new) }
@@ -103,6 +105,9 @@ pub fn read_text<G: Grammar>(
 ) -> Result<(Preamble, Sequence<G::Line>), ScriptFault>
     ensures found { IfOk result (λ read.
         IsText (G.judge grammar.now).takes (G.header grammar.now) (G.line_words grammar.now) (G.may_follow grammar.now) text.now read.0 read.1) }
+    // Its version is the one that the first line tells.
+    ensures version { IfOk result (λ read.
+        (G.judge grammar.now).version_of (G.header grammar.now read.0.version) ≡ Some read.0.version) }
     ensures none { OnOk result (text_fault (G.judge grammar.now) text.now ≡ None) }
     ensures fault { IfErr result (FailsBy (text_fault (G.judge grammar.now) text.now)) }
 {
