@@ -23,7 +23,7 @@ use Rattle.script_text.proofs.Numbers.{number_below-decimal}
 use Rattle.script_text.proofs.NoFault.{number_of-c}
 
 -- the value of a number's digits
-value-decimal : (n : ℕ) → n < 2 ^ 64 → digits_value 10 (decimal n) ≡ n
+pub value-decimal : (n : ℕ) → n < 2 ^ 64 → digits_value 10 (decimal n) ≡ n
 value-decimal n small = (decimal_is_IsNumeral n small).1
 
 -- what the words of a command tell, by its name and its numbers
