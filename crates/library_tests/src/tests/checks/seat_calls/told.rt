@@ -78,18 +78,42 @@ fn turned<L: ShowsLast, C: CountsEntries>(
     Ok(())
 }
 
+/// What the one seat or the other is answered to the command.
+fn reply_of<L: ShowsLast>(
+    first: &mut Seat<L>,
+    second: &mut Seat<L>,
+    is_first: bool,
+    command: &Command,
+) -> Result<Option<Reply>, Memory>
+    ensures first { IsSameSeat first.old first.new }
+    ensures second { IsSameSeat second.old second.new }
+{
+    if is_first {
+        called(first, command)
+    } else {
+        called(second, command)
+    }
+}
+
 impl<L: ShowsLast, C: CountsEntries> Parties<L, C> {
     /// The one seat or the other is called so, and then the turns are made.
-    fn call(self, first: bool, command: &Command) -> Result<Parties<L, C>, Memory> {
-        let mut parties = self;
-        let reply = if first {
-            called(&mut parties.first, command)?
-        } else {
-            called(&mut parties.second, command)?
-        };
-        parties.replies.push(reply)?;
-        turned(&mut parties.collector, &mut parties.turns)?;
-        Ok(parties)
+    fn call(self, is_first: bool, command: &Command) -> Result<Parties<L, C>, Memory> {
+        let Parties {
+            mut first,
+            mut second,
+            mut collector,
+            mut replies,
+            mut turns,
+        } = self;
+        replies.push(reply_of(&mut first, &mut second, is_first, command)?)?;
+        turned(&mut collector, &mut turns)?;
+        Ok(Parties {
+            first,
+            second,
+            collector,
+            replies,
+            turns,
+        })
     }
 }
 
