@@ -5,11 +5,11 @@
  *
  *     fodderpause_handle collector = FODDERPAUSE_NONE;
  *     fodderpause_handle seats[2] = {FODDERPAUSE_NONE, FODDERPAUSE_NONE};
- *     if (fodderpause_make(64, 0, &collector, seats, 2) != FODDERPAUSE_DONE) ...
+ *     if (fodderpause_make(64, 0, 32, &collector, seats, 2) != FODDERPAUSE_DONE) ...
  *     fodderpause_made made = fodderpause_new(&seats[0], 1, 2);
  *
- * A seat has sixteen registers, numbered 0 to 15, which are the roots of its objects. Register 0 holds the board, a record of 32 fields that is there
- * from the start and that all seats share; it is only read. What no register holds, and no field of what is held, is garbage.
+ * A seat has sixteen registers, numbered 0 to 15, which are the roots of its objects. Register 0 holds the board, a record of 1 to 47 fields that
+ * is there from the start and that all seats share; the register is only read. What no register holds, and no field of what is held, is garbage.
  *
  * What the library owes is proved, and it is owed to those who keep these duties, which nothing checks:
  *
@@ -22,7 +22,8 @@
  *   No call is made from a signal handler, nor in the forked child of a process with threads.
  *   malloc, realloc and free are of one allocator, and a block is aligned to each power of two up to 16 that divides its size.
  *
- * No call takes memory but fodderpause_make. fodderpause_fold_in, fodderpause_close and fodderpause_drop give some back.
+ * No call takes memory but fodderpause_make, and fodderpause_close, which gives back what it takes. fodderpause_fold_in, fodderpause_close and
+ * fodderpause_drop give back what fodderpause_make took.
  */
 #ifndef FODDERPAUSE_H
 #define FODDERPAUSE_H
@@ -133,10 +134,10 @@ typedef struct fodderpause_turned {
 } fodderpause_turned;
 
 /*
- * Opens a heap of 1 to 4,096 groups of sixteen fragments of 32 bytes, and 0 to 16,384 spine words, which arrays need. Its collector is behind the one
- * handle then, and its seats, numbered from 0, behind the others, of which there are 1 to 16. OUT_OF_RANGE, IS_HELD, NO_MEMORY.
+ * Opens a heap of 1 to 4,096 groups of sixteen fragments of 32 bytes, 0 to 16,384 spine words, which arrays need, and a board of 1 to 47 fields. Its
+ * collector is behind the one handle then, and its seats, numbered from 0, behind the others, of which there are 1 to 16. OUT_OF_RANGE, IS_HELD, NO_MEMORY.
  */
-uint32_t fodderpause_make(uint16_t groups, uint16_t spine, fodderpause_handle *collector, fodderpause_handle *seats, size_t count);
+uint32_t fodderpause_make(uint16_t groups, uint16_t spine, uint8_t board, fodderpause_handle *collector, fodderpause_handle *seats, size_t count);
 
 /* Lets go what is behind the handle, whatever it is doing. The heap's memory goes with the last of its handles. NO_PARTY. */
 uint32_t fodderpause_drop(fodderpause_handle *party);
@@ -209,7 +210,10 @@ fodderpause_phase_told fodderpause_phase(fodderpause_handle *collector);
 /* The collector takes in a seat that has left: there is nothing behind the seat's handle then. NO_PARTY, HAS_NOT_LEFT. */
 uint32_t fodderpause_fold_in(fodderpause_handle *collector, fodderpause_handle *seat);
 
-/* Closes a heap whose seats were all folded in: its memory is given back, and there is nothing behind the handle then. NO_PARTY, NOT_FOLDED. */
+/*
+ * Closes a heap whose seats were all folded in: its words are read a last time, its memory is given back, and there is nothing behind the handle then.
+ * NO_PARTY, NOT_FOLDED, NO_MEMORY, at which the heap stays, and can be closed later.
+ */
 uint32_t fodderpause_close(fodderpause_handle *collector);
 
 #ifdef __cplusplus

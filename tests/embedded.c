@@ -1,27 +1,47 @@
 /*
  * Brings the library for C to each code that a short program can bring it to, and counts the memory that its calls take. Says a line for each that is
- * otherwise, and nothing where all is well. Linked with -Wl,--wrap=malloc,--wrap=realloc.
+ * otherwise, and nothing where all is well. Linked with -Wl,--wrap=malloc,--wrap=realloc,--wrap=free.
  */
 #include "fodderpause.h"
 
+#include <limits.h>
 #include <stdio.h>
 
+/* How often memory was asked for, how often it is still given, and how many blocks are not given back. */
 static unsigned long taken;
+static unsigned long allowed = ULONG_MAX;
+static unsigned long blocks;
 static int failed;
 
 void *__real_malloc(size_t size);
 void *__real_realloc(void *block, size_t size);
+void __real_free(void *block);
+
+/* Whether memory is given once more. */
+static bool is_given(void)
+{
+    taken++;
+    return allowed > 0 && allowed-- > 0;
+}
 
 void *__wrap_malloc(size_t size)
 {
-    taken++;
-    return __real_malloc(size);
+    void *block = is_given() ? __real_malloc(size) : NULL;
+    blocks += block != NULL;
+    return block;
 }
 
 void *__wrap_realloc(void *block, size_t size)
 {
-    taken++;
-    return __real_realloc(block, size);
+    void *larger = is_given() ? __real_realloc(block, size) : NULL;
+    blocks += block == NULL && larger != NULL;
+    return larger;
+}
+
+void __wrap_free(void *block)
+{
+    blocks -= block != NULL;
+    __real_free(block);
 }
 
 static void is(const char *what, unsigned long long got, unsigned long long wanted)
@@ -35,15 +55,40 @@ static void is(const char *what, unsigned long long got, unsigned long long want
 static fodderpause_handle collector = FODDERPAUSE_NONE;
 static fodderpause_handle seats[2] = {FODDERPAUSE_NONE, FODDERPAUSE_NONE};
 
+/* Where memory is given a few times and then not, all that was given is given back. */
+static void open_without_memory(void)
+{
+    uint32_t code = FODDERPAUSE_NO_MEMORY;
+    for (unsigned long given = 0; code != FODDERPAUSE_DONE && given < 100; given++) {
+        allowed = given;
+        code = fodderpause_make(2, 8, 32, &collector, seats, 2);
+        allowed = ULONG_MAX;
+        if (code != FODDERPAUSE_DONE) {
+            is("memory was wanting", code, FODDERPAUSE_NO_MEMORY);
+            is("nobody is there", fodderpause_poll(&seats[1]).code, FODDERPAUSE_NO_PARTY);
+            is("what was given is given back", blocks, 0);
+        }
+    }
+    is("memory was not wanting", code, FODDERPAUSE_DONE);
+    is("let go", fodderpause_drop(&seats[1]), FODDERPAUSE_DONE);
+    is("let go", fodderpause_drop(&collector), FODDERPAUSE_DONE);
+    is("let go", fodderpause_drop(&seats[0]), FODDERPAUSE_DONE);
+    is("all is given back", blocks, 0);
+}
+
 static void open_refused(void)
 {
     is("a poll of nobody", fodderpause_poll(&seats[0]).code, FODDERPAUSE_NO_PARTY);
-    is("no groups", fodderpause_make(0, 0, &collector, seats, 2), FODDERPAUSE_OUT_OF_RANGE);
-    is("too many groups", fodderpause_make(4097, 0, &collector, seats, 2), FODDERPAUSE_OUT_OF_RANGE);
-    is("too many spine words", fodderpause_make(1, 16385, &collector, seats, 2), FODDERPAUSE_OUT_OF_RANGE);
+    is("no groups", fodderpause_make(0, 0, 32, &collector, seats, 2), FODDERPAUSE_OUT_OF_RANGE);
+    is("too many groups", fodderpause_make(4097, 0, 32, &collector, seats, 2), FODDERPAUSE_OUT_OF_RANGE);
+    is("too many spine words", fodderpause_make(1, 16385, 32, &collector, seats, 2), FODDERPAUSE_OUT_OF_RANGE);
+    is("no board", fodderpause_make(1, 0, 0, &collector, seats, 2), FODDERPAUSE_OUT_OF_RANGE);
+    is("too large a board", fodderpause_make(1, 0, 48, &collector, seats, 2), FODDERPAUSE_OUT_OF_RANGE);
+    is("no seats", fodderpause_make(1, 0, 32, &collector, seats, 0), FODDERPAUSE_OUT_OF_RANGE);
     is("nothing taken so far", taken, 0);
-    is("open", fodderpause_make(2, 8, &collector, seats, 2), FODDERPAUSE_DONE);
-    is("open again", fodderpause_make(2, 8, &collector, seats, 2), FODDERPAUSE_IS_HELD);
+    open_without_memory();
+    is("open", fodderpause_make(2, 8, 32, &collector, seats, 2), FODDERPAUSE_DONE);
+    is("open again", fodderpause_make(2, 8, 32, &collector, seats, 2), FODDERPAUSE_IS_HELD);
 }
 
 static void call_refused(fodderpause_handle *seat)
@@ -133,6 +178,53 @@ static void close_all(void)
     }
 }
 
+/* The table's words are read into a list of their own. */
+static void close_heap(void)
+{
+    allowed = 0;
+    is("memory was wanting to close", fodderpause_close(&collector), FODDERPAUSE_NO_MEMORY);
+    allowed = ULONG_MAX;
+    is("the collector is there", fodderpause_phase(&collector).code, FODDERPAUSE_DONE);
+    is("closed", fodderpause_close(&collector), FODDERPAUSE_DONE);
+    is("closed again", fodderpause_close(&collector), FODDERPAUSE_NO_PARTY);
+    is("all is given back", blocks, 0);
+}
+
+/* A board of each size, whose last field is there and none behind it. */
+static void open_each_board(void)
+{
+    for (uint8_t fields = 1; fields <= 47; fields++) {
+        is("open with a board", fodderpause_make(2, 0, fields, &collector, seats, 1), FODDERPAUSE_DONE);
+        is("the board's fields", fodderpause_len(&seats[0], 0).number, fields);
+        is("its last one", fodderpause_set(&seats[0], 0, fields - 1u, 1).code, FODDERPAUSE_DONE);
+        is("one behind it", fodderpause_set(&seats[0], 0, fields, 1).code, FODDERPAUSE_NO_FIELD);
+        is("let go", fodderpause_drop(&collector), FODDERPAUSE_DONE);
+        is("the seat goes on", fodderpause_nil(&seats[0], 1).code, FODDERPAUSE_DONE);
+        is("let go", fodderpause_drop(&seats[0]), FODDERPAUSE_DONE);
+        is("let go again", fodderpause_drop(&seats[0]), FODDERPAUSE_NO_PARTY);
+    }
+    is("each is given back", blocks, 0);
+}
+
+/* A seat's last set, and then none: this takes some seconds. */
+static void spend_stamps(void)
+{
+    is("open for sets", fodderpause_make(1, 0, 1, &collector, seats, 1), FODDERPAUSE_DONE);
+    uint32_t left = fodderpause_stamps_left(&seats[0]).number;
+    is("sets in a seat's life", left, 67108863);
+    for (; left > 0; left--) {
+        if (fodderpause_set(&seats[0], 0, 0, 1).code != FODDERPAUSE_DONE) {
+            is("sets that were left", left, 0);
+            break;
+        }
+    }
+    is("one set more", fodderpause_set(&seats[0], 0, 0, 1).code, FODDERPAUSE_STAMPS_SPENT);
+    is("a swap", fodderpause_cas(&seats[0], 0, 0, 1, 1).code, FODDERPAUSE_STAMPS_SPENT);
+    is("a get still", fodderpause_get(&seats[0], 1, 0, 0).stamp, 67108863 + (1u << 26));
+    is("let go", fodderpause_drop(&collector), FODDERPAUSE_DONE);
+    is("let go", fodderpause_drop(&seats[0]), FODDERPAUSE_DONE);
+}
+
 int main(void)
 {
     open_refused();
@@ -142,11 +234,8 @@ int main(void)
     end_cycles();
     close_all();
     is("taken by all these calls", taken, 0);
-    is("closed", fodderpause_close(&collector), FODDERPAUSE_DONE);
-    is("closed again", fodderpause_close(&collector), FODDERPAUSE_NO_PARTY);
-    is("opened again", fodderpause_make(1, 0, &collector, seats, 1), FODDERPAUSE_DONE);
-    is("let go", fodderpause_drop(&seats[0]), FODDERPAUSE_DONE);
-    is("let go", fodderpause_drop(&collector), FODDERPAUSE_DONE);
-    is("let go again", fodderpause_drop(&collector), FODDERPAUSE_NO_PARTY);
+    close_heap();
+    open_each_board();
+    spend_stamps();
     return failed;
 }

@@ -64,7 +64,7 @@ static void print_string(uint8_t r)
 
 int main(void)
 {
-    done(fodderpause_make(8, 64, &collector, &seat, 1));
+    done(fodderpause_make(8, 64, 32, &collector, &seat, 1));
 
     nil(&seat, LIST);
     for (uint32_t n = 1; n <= 10; n++) {

@@ -164,7 +164,7 @@ int main(void)
 {
     pthread_t threads[THREADS + 1];
 
-    done(fodderpause_make(64, 0, &collector, seats, THREADS));
+    done(fodderpause_make(64, 0, 2, &collector, seats, THREADS));
     open_queue(&seats[0]);
     for (int k = 0; k < THREADS; k++) {
         if (pthread_create(&threads[k], NULL, k < 2 ? put_all : take_all, &seats[k]) != 0) {

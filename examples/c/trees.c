@@ -60,7 +60,7 @@ static unsigned count(void)
 
 int main(void)
 {
-    done(fodderpause_make(2048, 0, &collector, &seat, 1));
+    done(fodderpause_make(2048, 0, 1, &collector, &seat, 1));
     nil(&seat, STACK);
     for (int k = 0; k < TREES; k++) {
         make_tree(DEPTH);

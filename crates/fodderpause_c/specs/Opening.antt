@@ -29,12 +29,12 @@ abbrev pub are_bare : List Handle → Bool
 are_bare handles = list_all (λ (handle : Handle). not (is_some handle.pointer.party)) handles
 
 -- the heap of these sizes
-abbrev pub heap_with : ℕ → ℕ → ℕ → Heap
-heap_with groups spine seats = record { groups = groups; spine = spine; seats = seats }
+abbrev pub heap_with : ℕ → ℕ → ℕ → ℕ → Heap
+heap_with groups spine seats board = record { groups = groups; spine = spine; seats = seats; board = board }
 
 -- it is the heap of these sizes, within the limits
-abbrev pub IsHeapOf : ℕ → ℕ → ℕ → Heap → Type 0
-IsHeapOf groups spine seats heap = (heap ≡ heap_with groups spine seats) × IsHeap heap
+abbrev pub IsHeapOf : ℕ → ℕ → ℕ → ℕ → Heap → Type 0
+IsHeapOf groups spine seats board heap = (heap ≡ heap_with groups spine seats board) × IsHeap heap
 
 -- a table of this heap opens with this collector and these seats, in their order
 pub record OpensWith (heap : Heap) (collector : Party) (seats : List Party) : Type 0 where
@@ -76,5 +76,5 @@ abbrev pub OpensWithin : Heap → Option Party → Option Party → List Handle 
 OpensWithin heap old new seats then answer = (IsHeap heap × Opens heap old new seats then answer) ⊎ ((¬ IsHeap heap) × (answer ≡ Err OutOfRange) × AllStay old new seats then)
 
 -- and C is told which
-abbrev pub OpensHeap : ℕ → ℕ → Option Party → Option Party → List Handle → List Handle → ℕ → Type 0
-OpensHeap groups spine old new seats then code = (answer : Result (Unit {0}) Refusal) × OpensWithin (heap_with groups spine (length seats)) old new seats then answer × (code ≡ answer_code answer)
+abbrev pub OpensHeap : ℕ → ℕ → ℕ → Option Party → Option Party → List Handle → List Handle → ℕ → Type 0
+OpensHeap groups spine board old new seats then code = (answer : Result (Unit {0}) Refusal) × OpensWithin (heap_with groups spine (length seats) board) old new seats then answer × (code ≡ answer_code answer)

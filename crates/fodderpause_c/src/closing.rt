@@ -1,5 +1,5 @@
-ghost use Rattle.std.specs.Prelude.{◌≡◌, None, MatchResult};
-ghost use Rattle.fodderpause_c.specs.Closing.{IsOver, RefusesClose, Drops, DropsAll, Closes, ClosesAll};
+ghost use Rattle.std.specs.Prelude.{◌≡◌, [], None, MatchResult, vec_capacity};
+ghost use Rattle.fodderpause_c.specs.Closing.{IsOver, HasRoom, RefusesClose, Drops, DropsAll, Closes, ClosesAll};
 
 use crate::codes::answer_code;
 use crate::handle::Handle;
@@ -17,9 +17,9 @@ fn let_go(alloc: Global, party: &mut Handle) -> Result<(), Refusal>
     }
 }
 
-/// Whether it is a collector that has taken in every seat.
-fn is_over(party: &Party) -> Result<(), Refusal>
-    ensures { MatchResult result (λ _. IsOver party.now) (RefusesClose party.now) }
+/// Room for the words of the table, where it is a collector that has taken in every seat.
+fn room_for_words(alloc: Global, party: &Party) -> Result<Vec<u64>, Refusal>
+    ensures { MatchResult result (λ words. IsOver party.now × (words.items ≡ []) × HasRoom party.now (vec_capacity words)) (RefusesClose party.now) }
 {
     let Party::OfCollector(collector) = party else {
         return Err(Refusal::NoParty);
@@ -27,21 +27,41 @@ fn is_over(party: &Party) -> Result<(), Refusal>
     if !collector.all_folded() {
         return Err(Refusal::NotFolded);
     }
-    Ok(())
+    match Vec::with_capacity(alloc, collector.word_count()) {
+        Ok(words) => Ok(words),
+        Err(_) => Err(Refusal::NoMemory),
+    }
 }
 
-/// Lets go the table of the collector behind the handle, once that has taken in every seat.
+/// Closes the table of this collector, which has taken in every seat. C is told of no word.
+fn end_table(party: Party, words: Vec<u64>)
+    requires over { IsOver party }
+    requires empty { words.items ≡ [] }
+    requires room { HasRoom party (vec_capacity words) }
+{
+    let Party::OfCollector(collector) = party else {
+        unreachable!()
+    };
+    collector.close_into(words);
+}
+
+/// Closes the table of the collector behind the handle, once that has taken in every seat.
 fn close(alloc: Global, collector: &mut Handle) -> Result<(), Refusal>
     ensures { Closes collector.old.pointer.party collector.new.pointer.party result }
 {
     let Some(party) = collector.take(alloc) else {
         return Err(Refusal::NoParty);
     };
-    if let Err(refusal) = is_over(&*party) {
-        collector.put(party);
-        return Err(refusal);
+    match room_for_words(alloc, &*party) {
+        Ok(words) => {
+            end_table(Box::into_inner(party), words);
+            Ok(())
+        }
+        Err(refusal) => {
+            collector.put(party);
+            Err(refusal)
+        }
     }
-    Ok(())
 }
 
 /// Lets go a seat or a collector. What a seat kept stays taken, and a heap of which a seat was let go can't be closed.
@@ -52,7 +72,7 @@ pub extern "C" fn fodderpause_drop(alloc: Global, party: &mut Handle) -> u32
     answer_code(let_go(alloc, party))
 }
 
-/// Closes the heap of a collector that has taken in every seat: its memory is given back.
+/// Closes the heap of a collector that has taken in every seat: its words are read a last time, and its memory is given back.
 #[unsafe(no_mangle)]
 pub extern "C" fn fodderpause_close(alloc: Global, collector: &mut Handle) -> u32
     ensures { ClosesAll collector.old.pointer.party collector.new.pointer.party result }

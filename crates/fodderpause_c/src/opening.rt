@@ -9,7 +9,7 @@ use crate::codes::{answer_code, refusal_code};
 use crate::handle::Handle;
 use crate::party::Party;
 use crate::refusal::Refusal;
-use core_machine::{CountedLog, LastLog};
+use core_machine::LastLog;
 use heap_model::{Heap, Memory};
 use heap_table::{HeapTable, Holder};
 use mutator_seat::Seat;
@@ -69,7 +69,7 @@ fn make_parties(alloc: Global, heap: Heap) -> Result<Opening, Memory>
     requires { IsHeap heap }
     ensures { IfOk result (λ made. OpensWith heap made.collector.value (boxed_in made.seats.items)) }
 {
-    let (holders, holder) = HeapTable::make::<LastLog, CountedLog>(alloc, heap)?;
+    let (holders, holder) = HeapTable::make_told(alloc, heap)?;
     let seats = boxed(alloc, holders)?;
     let collector = box_of(alloc, Party::OfCollector(holder))?;
     Ok(Opening { collector, seats })
@@ -98,30 +98,31 @@ fn open(
 }
 
 /// The heap of these sizes, with a seat for each handle.
-fn heap_of(groups: u16, spine: u16, handles: usize) -> Result<Heap, Refusal>
-    ensures { MatchResult result (IsHeapOf groups spine handles) (λ refusal. (refusal ≡ OutOfRange) × (¬ IsHeap (heap_with groups spine handles))) }
+fn heap_of(groups: u16, spine: u16, handles: usize, board: u8) -> Result<Heap, Refusal>
+    ensures { MatchResult result (IsHeapOf groups spine handles board) (λ refusal. (refusal ≡ OutOfRange) × (¬ IsHeap (heap_with groups spine handles board))) }
 {
     let Ok(seats) = u8::try_from(handles) else {
         return Err(Refusal::OutOfRange);
     };
-    match Heap::make(groups, spine, seats) {
+    match Heap::make(groups, spine, seats, board) {
         Some(heap) => Ok(heap),
         None => Err(Refusal::OutOfRange),
     }
 }
 
-/// Opens a heap of so many groups of fragments and spine words: its collector is behind the one handle then, and a seat behind each of the others, in their order.
+/// Opens a heap of so many groups of fragments, spine words and fields of the board: its collector is behind the one handle then, and a seat behind each of the others, in their order.
 #[unsafe(no_mangle)]
 pub extern "C" fn fodderpause_make(
     alloc: Global,
     groups: u16,
     spine: u16,
+    board: u8,
     collector: &mut Handle,
     seats: &mut [Handle],
 ) -> u32
-    ensures { OpensHeap groups spine collector.old.pointer.party collector.new.pointer.party seats.old seats.new result }
+    ensures { OpensHeap groups spine board collector.old.pointer.party collector.new.pointer.party seats.old seats.new result }
 {
-    match heap_of(groups, spine, seats.len()) {
+    match heap_of(groups, spine, seats.len(), board) {
         Ok(heap) => answer_code(open(alloc, heap, collector, seats)),
         Err(refusal) => refusal_code(refusal),
     }

@@ -19,9 +19,9 @@ use Rattle.core_machine.specs.seat.Seat.{Seat}
 use Rattle.core_machine.specs.table.Layout.{table_length}
 use Rattle.core_rule.proofs.entries.AtRest.{seat_fits}
 use Rattle.core_rule.proofs.entries.SeatLists.{idle_list_is_all_told}
-use Rattle.heap_table.specs.Closed.{IsWhole, EndsWhole, logs_in, logs_known, HasOneHistory}
+use Rattle.heap_table.specs.Closed.{IsWhole, EndsWhole, logs_in, logs_known, HasOneHistory, AreLastWords}
 use Rattle.heap_table.specs.CollectorHeld.{KeepsToken, seats_in}
-use Rattle.heap_table.specs.Folded.{AllFolded}
+use Rattle.heap_table.specs.Folded.{AllFolded, SeatsBefore}
 use Rattle.heap_table.specs.Handing.{with_closed}
 use Rattle.heap_table.specs.Holds.{Holds}
 use Rattle.heap_table.specs.Known.{CollectorKnown}
@@ -128,3 +128,18 @@ closed_has_one_history heap known read seat_slots words logs folded read_is seat
     let one = one_history heap (record known { closed = words }) (ap length (sym seats) ∙ length-map seat_slots (λ slot. option_map (λ (party : SeatWithRoom). party.seat) slot) ∙ seat_slots_are) whole in
     subst (λ (n : ℕ). HasOneHistory (record { heap = heap; words = words; logs = logs; folded = n })) folded_is
     (subst (λ (l : List (List Entry)). HasOneHistory (record { heap = heap; words = words; logs = l; folded = known.folded })) (sym logs_are) one)
+
+-- of a table that is closed without logs, these are the words
+pub read_words_are_last : (heap : Heap) (known read : CollectorKnown) (words : List ℕ) (folded : ℕ) → read ≡ record known { closed = words } → EndsWhole heap read → length words ≡ table_length heap → known.folded ≡ folded
+    → AreLastWords (record { heap = heap; words = words; folded = folded })
+read_words_are_last heap known read words folded read_is ends long folded_is =
+    let whole : IsWhole heap (record known { closed = words }) = subst (IsWhole heap) read_is (ends (ap (λ (k : CollectorKnown). length k.closed) read_is ∙ long)) in
+    record {
+      each = long;
+      state = whole.state;
+      book = whole.book;
+      stands = whole.stands;
+      words_are = whole.words_are;
+      gone = whole.gone;
+      seats_before = subst (λ (n : ℕ). SeatsBefore n whole.book.history) folded_is whole.late;
+    }

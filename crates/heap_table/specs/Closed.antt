@@ -54,3 +54,19 @@ pub record HasOneHistory (closed : ClosedTable) : Type 0 where
   pub its_history : book.history ≡ history
   pub words_are : state.words ≡ closed.words
   pub seats_before : SeatsBefore closed.folded history
+
+-- what contracts see of a table that was closed without logs: its heap, its words, and the phase in which the last seat was folded in
+pub record LastWords : Type 0 where
+  pub heap : Heap
+  pub words : List ℕ
+  pub folded : ℕ
+
+-- there is each word of the table, and a book stands for them; every seat has left, and no entry of one stands behind a phase above `folded`
+pub record AreLastWords (closed : LastWords) : Type 0 where
+  pub each : length closed.words ≡ table_length closed.heap
+  pub state : State
+  pub book : Book
+  pub stands : Stands closed.heap state book
+  pub words_are : state.words ≡ closed.words
+  pub gone : (number : ℕ) → number < closed.heap.seats → (seat_at state number).left ≡ true
+  pub seats_before : SeatsBefore closed.folded book.history

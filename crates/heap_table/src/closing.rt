@@ -8,18 +8,19 @@ ghost use Rattle.heap_table.specs.Handing.{with_closed};
 ghost use Rattle.heap_table.specs.Views.{known_by};
 
 use crate::closed::Closed;
+use crate::closed_words::ClosedWords;
 use crate::collector::CollectorHolder;
 use crate::rule::{Token, Words};
 use crate::touch::read;
-use core_machine::SeatParty;
+use core_machine::{CountsEntries, Entries, Log, SeatParty};
 use heap_model::{Entry, Heap};
 use std::alloc::Global;
 use std::marker::Brand;
 
 /// Memory is wanting to close the table of this holder, to which nothing happened.
 #[derive(Drop)]
-pub struct CloseFault {
-    pub holder: CollectorHolder,
+pub struct CloseFault<L: Entries = Log, C: CountsEntries = Log> {
+    pub holder: CollectorHolder<L, C>,
 }
 
 /// Reads the next word of the table.
@@ -102,5 +103,48 @@ impl CollectorHolder {
         move_logs(alloc, seat_slots, &mut logs);
         logs.push_reserved(party.into_entries());
         Ok(Closed::of(heap, words, logs, folded))
+    }
+}
+
+impl<L: Entries, C: CountsEntries> CollectorHolder<L, C> {
+    /// How many words the table has.
+    pub fn word_count(&self) -> usize
+        ensures { result ≡ table_length self.now.heap }
+    {
+        word_count(&self.heap)
+    }
+
+    /// Closes the table without logs, once every seat was folded in: reads each word into this list, which has room for all. It takes no memory.
+    pub fn close_into(self, words: Vec<u64>) -> ClosedWords
+        requires folded { AllFolded self.heap self.known.seats }
+        requires empty { words.items ≡ [] }
+        requires room { table_length self.heap ≤ vec_capacity words }
+        ensures heap { result.heap ≡ self.heap }
+        ensures folded { result.folded ≡ self.known.folded }
+    {
+        let count = word_count(&self.heap);
+        let CollectorHolder {
+            table,
+            mut token,
+            heap,
+            folded,
+            ..
+        } = self;
+        let mut words = words;
+        read_all(&table.shared, &mut token, &heap, &mut words, count);
+        ClosedWords::of(heap, words, folded)
+    }
+
+    /// Closes the table without logs, likewise, into a list of its own.
+    pub fn close_told(self, alloc: Global) -> Result<ClosedWords, CloseFault<L, C>>
+        requires { AllFolded self.heap self.known.seats }
+        ensures heap { IfOk result (λ closed. closed.heap ≡ self.heap) }
+        ensures folded { IfOk result (λ closed. closed.folded ≡ self.known.folded) }
+        ensures fault { IfErr result (λ fault. fault.holder ≡ self) }
+    {
+        let Ok(words) = Vec::with_capacity(alloc, self.word_count()) else {
+            return Err(CloseFault { holder: self });
+        };
+        Ok(self.close_into(words))
     }
 }

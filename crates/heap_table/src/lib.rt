@@ -2,6 +2,7 @@
 #![tactic(auto)]
 
 mod closed;
+mod closed_words;
 mod closing;
 mod collector;
 mod holder;
@@ -13,6 +14,7 @@ mod touch;
 mod view;
 
 pub use closed::Closed;
+pub use closed_words::ClosedWords;
 pub use closing::CloseFault;
 pub use collector::CollectorHolder;
 pub use holder::Holder;

@@ -6,7 +6,7 @@ ghost use Rattle.heap_table.specs.Opened.{IsOpened};
 
 use crate::collector::CollectorHolder;
 use crate::holder::Holder;
-use core_machine::{CountsEntries, Entries};
+use core_machine::{CountedLog, CountsEntries, Entries, LastLog};
 use heap_model::{Heap, Memory};
 use std::alloc::Global;
 
@@ -33,5 +33,20 @@ impl HeapTable {
             holders.push(holder)?;
         }
         Ok((holders, collector))
+    }
+
+    /// The holders of a heap without logs, likewise: a seat keeps its last entry alone, and the collector counts its own.
+    pub fn make_told(
+        alloc: Global,
+        heap: Heap,
+    ) -> Result<(Vec<Holder<LastLog>>, CollectorHolder<LastLog, CountedLog>), Memory>
+        requires { IsHeap heap }
+        ensures numbers { IfOk result (λ made. map (λ held. held.number) made.0.items ≡ range_with_len 0 heap.seats) }
+        ensures each { IfOk result (λ made. All (IsOpened made.1.table heap) made.0.items) }
+        ensures heap { IfOk result (λ made. made.1.heap ≡ heap) }
+        ensures known { IfOk result (λ made. made.1.known ≡ record (opening_known heap) { handed = heap.seats }) }
+        ensures turns { IfOk result (λ made. made.1.turns ≡ 0) }
+    {
+        HeapTable::make::<LastLog, CountedLog>(alloc, heap)
     }
 }

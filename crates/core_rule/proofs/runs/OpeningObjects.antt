@@ -94,8 +94,8 @@ module _ (heap : Heap) (words : List ℕ) (limits : IsHeap heap) (open_words : (
 
   board_kept : KeptObject heap words (opening_owner heap) (object_head opening_made (opening_fragments heap)) 0 Board (fresh false (board_fields heap)) (board heap) no_spot
   board_kept = record {
-    sized = (omega arith, omega arith);
-    whole = refl;
+    sized = omega (arith, length-replicate (board_fields heap) unset, limits.some_board, limits.board_fits);
+    whole = length-range_with_len 0 (board_fragments heap) ∙ ap record_fragments (sym (length-replicate (board_fields heap) unset));
     owned = λ k below. let here : k < board_fragments heap = on_board k below in rw (board_fragment_is_number heap k here) (opening_owner_cases heap (λ o. o ≡ Kept 0 k) k (λ less. refl) (λ past. absurd (omega (arith, here, past))));
     stored = λ k part below fits.
         let here : k < board_fragments heap = on_board k below in

@@ -6,7 +6,7 @@ use Rattle.std.proofs.lemmas.List.FromFn.{get_or-range_with_len}
 use Rattle.std.proofs.lemmas.Nat.Bits.{bit_at_above, bit_at_ones, bit_at_ones_above, bit_at_cat_low, bit_at_cat_high}
 use Rattle.heap_model.specs.Board.{board_fragments}
 use Rattle.heap_model.specs.Heap.{IsHeap}
-use Rattle.core_rule.proofs.Terms.{Heap, sum_upto, fragment_at, AreUsed, Owner, Free, Kept, IsSeated, OwnersStand, taken_bit, born_bit}
+use Rattle.core_rule.proofs.Terms.{Heap, sum_upto, fragment_at, AreUsed, Owner, Free, Kept, IsBoards, IsSeated, OwnersStand, taken_bit, born_bit}
 use Rattle.core_machine.specs.machine.Opening.{board, board_bits, board_group}
 use Rattle.core_machine.proofs.machine_lemmas.BoardPlace.{board_bits_fit_group}
 use Rattle.core_machine.proofs.table_lemmas.Free.{sum_of_nothing_is_zero}

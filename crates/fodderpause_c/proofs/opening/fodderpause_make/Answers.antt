@@ -5,4 +5,4 @@ use Rattle.fodderpause_c.proofs.opening.fodderpause_make.Goals as goal
 
 pub returns-in-Err : goal.returns-in-Err
 returns-in-Err c =
-    refused_within (heap_with c.args.groups c.args.spine (length c.args.seats.now)) c.args.collector.now.pointer.party c.args.seats.now c.in-Err.refusal c.refusal_code.result c.in-Err.ensures.0 c.in-Err.ensures.1 c.refusal_code.ensures
+    refused_within (heap_with c.args.groups c.args.spine (length c.args.seats.now) c.args.board) c.args.collector.now.pointer.party c.args.seats.now c.in-Err.refusal c.refusal_code.result c.in-Err.ensures.0 c.in-Err.ensures.1 c.refusal_code.ensures

@@ -1,0 +1,84 @@
+/* Times the calls of one seat by the library for C, 8,192 of a kind in a row, each time on a heap of its own on which no collector works: what bench/seats times of the seat itself.
+   Prints for each what is timed, how many of it there are, and the least time of twenty in nanoseconds. */
+#include "fodderpause.h"
+#include "timing.h"
+#include "work.h"
+
+static fodderpause_handle collector = FODDERPAUSE_NONE;
+static fodderpause_handle seat = FODDERPAUSE_NONE;
+
+static void news(void)
+{
+    for (unsigned i = 0; i < FIELDS; i++) {
+        fodderpause_new(&seat, 2, 2);
+    }
+}
+
+static void gets(void)
+{
+    for (unsigned i = 0; i < FIELDS; i++) {
+        fodderpause_get(&seat, 3, 1, 0);
+    }
+}
+
+static void sets(void)
+{
+    for (unsigned i = 0; i < FIELDS; i++) {
+        fodderpause_set(&seat, 1, 0, 2);
+    }
+}
+
+/* The first swaps, and each other finds the field swapped. */
+static void swaps(void)
+{
+    for (unsigned i = 0; i < FIELDS; i++) {
+        fodderpause_cas(&seat, 1, 0, 4, 2);
+    }
+}
+
+/* A get, and a compare and swap that swaps what was got. */
+static void pairs(void)
+{
+    for (unsigned i = 0; i < FIELDS; i++) {
+        fodderpause_get(&seat, 3, 1, 0);
+        fodderpause_cas(&seat, 1, 0, 3, 2);
+    }
+}
+
+static void numbers(void)
+{
+    for (unsigned i = 0; i < FIELDS; i++) {
+        fodderpause_num(&seat, 2, 7);
+    }
+}
+
+static void told_calls(const char *name, void (*calls)(void))
+{
+    uint64_t least = UINT64_MAX;
+    for (int i = 0; i < 20; i++) {
+        if (fodderpause_make(1024, 16384, 32, &collector, &seat, 1) != FODDERPAUSE_DONE) {
+            return;
+        }
+        fodderpause_new(&seat, 1, 2);
+        uint64_t start = now();
+        calls();
+        uint64_t time = now() - start;
+        if (time < least) {
+            least = time;
+        }
+        fodderpause_drop(&seat);
+        fodderpause_drop(&collector);
+    }
+    printf("%s %u %llu\n", name, (unsigned) FIELDS, (unsigned long long) least);
+}
+
+int main(void)
+{
+    told_calls("new", news);
+    told_calls("get", gets);
+    told_calls("set", sets);
+    told_calls("cas", swaps);
+    told_calls("pair", pairs);
+    told_calls("num", numbers);
+    return 0;
+}

@@ -1,0 +1,14 @@
+use Rattle.std.proofs.Common.{sym, subst}
+use Rattle.heap_table.specs.CollectorHeld.{CollectorHeld}
+use Rattle.heap_table.specs.Folded.{AllFolded}
+use Rattle.heap_table.specs.Views.{known_by}
+use Rattle.heap_table.proofs.Histories.{read_words_are_last}
+use Rattle.heap_table.proofs.collector.CollectorHolder.close_into.Goals as goal
+
+pub read_all-requires-clause-folded : goal.read_all-requires-clause-folded
+read_all-requires-clause-folded g c = subst (λ (v : CollectorHeld). AllFolded v.heap v.known.seats) (sym c.self.view_is) c.requires.folded
+
+pub of-requires : goal.of-requires
+of-requires g c =
+    let i = c.self.invariant in
+    read_words_are_last c.self.inside.heap (known_by c.self.inside.token.me.0) _ _ _ c.read_all.ensures.known c.read_all.ensures.ends c.read_all.ensures.whole i.folded_is
