@@ -10,14 +10,16 @@ use Rattle.locked_heap.specs.Ran.{IsRun}
 use Rattle.heap_model.specs.runs.Endings.{EndsEmpty}
 use Rattle.locked_heap.proofs.HeapEntries.{run_entries_are_of_heap}
 use Rattle.script_text.specs.declared.script.Script.{Script}
+use Rattle.script_text.specs.Words.{preamble_of}
 use Rattle.schism_program.specs.Running.{seat_commands, run_history, IsRunOf}
 
 -- a run of what the seats are handed is one of the script
 pub history_is_run_of_script : (given : Given) (ran : LockedRan) (script : Script) → given.heap ≡ script.heap
-    → ((number : ℕ) → number < script.heap.seats → script_of given number ≡ seat_commands number script.lines) → IsRun given ran → IsRunOf true script (run_history script.heap ran)
+    → ((number : ℕ) → number < script.heap.seats → script_of given number ≡ seat_commands number script.lines) → IsRun given ran → IsRunOf true script (run_history (preamble_of script) ran)
 history_is_run_of_script given ran script same handed run =
     let whole : IsLegal script.heap false ran.history.items = subst (λ (h : Heap). IsLegal h false ran.history.items) same run.legal in
     record {
+      version = refl;
       form = refl;
       heap = refl;
       unmarked = refl;
