@@ -1,5 +1,5 @@
 -- The scripts of the seats are those of a run.
-use Rattle.std.proofs.Common.{◌≡◌, ℕ, ◌+◌, ◌<◌, ◌≤◌, ◌==◌, Bool, true, false, if◌then◌else◌, List, [], ◌∷◌, ◌++◌, length, map, Vec, Global, sym, ap, ◌∙◌, subst, arith}
+use Rattle.std.proofs.Common.{◌≡◌, ◌≢◌, ℕ, ◌+◌, ◌<◌, ◌≤◌, ◌==◌, Bool, true, false, if◌then◌else◌, List, [], ◌∷◌, ◌++◌, length, map, Vec, Global, sym, ap, ◌∙◌, subst, arith}
 use Rattle.std.specs.Prelude.{All, slice_index_or}
 use Rattle.std.specs.List.{AllByRecursion, range_with_len}
 use Rattle.std.proofs.lemmas.List.{length-map}
@@ -31,9 +31,12 @@ abbrev pub items : Vec Command Global → List Command
 items script = script.items
 
 -- a command that a script may have is one of a seat's script
+not_leave : (has : CommandSet) (command : Command) → IsScripted has command → command ≢ commands.Leave
+not_leave has commands.Leave is = absurd is
+not_leave has _ is = λ same. cc same
+
 of_script : (has : CommandSet) (command : Command) → IsScripted has command → IsOfScript command
-of_script has commands.Leave is = absurd is
-of_script has command is = (scripted_command_is_in_range has command is, λ same. cc)
+of_script has command is = (scripted_command_is_in_range has command is, not_leave has command is)
 
 -- the command of a line is one more at most
 few_more : (own : Bool) (command : Command) (rest : List Command) (n : ℕ) → length rest ≤ n → length ((if own then command ∷ [] else []) ++ rest) ≤ n + 1
