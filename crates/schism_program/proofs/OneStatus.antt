@@ -10,11 +10,12 @@ use Rattle.script_text.specs.declared.cause.LineFault.{LineFault}
 use Rattle.script_text.specs.declared.script.Form.TheVariants as forms
 use Rattle.script_text.proofs.Whole.{first_fault-none}
 use Rattle.reply_text.specs.declared.history.History.{History as AHistory}
-use Rattle.reply_text.specs.History.{IsHistory}
+use Rattle.reply_text.specs.History.{IsHistory, body}
 use Rattle.reply_text.proofs.Whole.{first_history_fault-none, equal_texts_same_history}
 use Rattle.io_edge.specs.Left.{GivesAll}
 use Rattle.log_merge.specs.Legal.{IsLegalHistory}
 use Rattle.log_merge.specs.Lines.{IsFirstIllegal}
+use Rattle.log_merge.proofs.Migrated.{first_wrong_line_is_one}
 use Rattle.schism_program.specs.declared.status.Status.{Status}
 use Rattle.schism_program.specs.declared.status.Status.TheVariants.{Done, Refused, Usage, TooLong, NotLegal}
 use Rattle.schism_program.specs.Due.{IsDue, IsDueTo, IsInput}
@@ -22,7 +23,6 @@ use Rattle.schism_program.specs.Outcome.{IsRead}
 use Rattle.schism_program.specs.Planning.{FailsAsPlay}
 use Rattle.schism_program.specs.Verdict.{FindsIllegal}
 use Rattle.schism_program.specs.Works.{FailsAt, IsIllegalAt, MakesText, Suits}
-use Rattle.schism_program.proofs.FirstLines.{equal_first_lines}
 
 -- what a text was made of suits the work
 pub made_input_suits_work : (work : Work) (input text : List ℕ) → MakesText work input text → Suits work input
@@ -93,7 +93,7 @@ fails_once (Migrate History) input line line' cause cause' fault fault' = same_f
 first_illegal_once : (input : List ℕ) (line line' : ℕ) → FindsIllegal input line → FindsIllegal input line' → line ≡ line'
 first_illegal_once input line line' illegal illegal' =
     let same = equal_texts_same_history input illegal.history illegal'.history illegal.spelled illegal'.spelled in
-    equal_first_lines illegal'.history line line' (subst (λ (h : AHistory). IsFirstIllegal h line) same illegal.first) illegal'.first
+    first_wrong_line_is_one illegal'.history.form illegal'.history.heap (body illegal'.history) line line' (subst (λ (h : AHistory). IsFirstIllegal h line) same illegal.first) illegal'.first
 
 -- and so of a work's input
 illegal_once : (work : Work) (input : List ℕ) (line line' : ℕ) → IsIllegalAt work input line → IsIllegalAt work input line' → line ≡ line'
