@@ -1,10 +1,9 @@
-use Rattle.std.proofs.Common.{sym, subst, ◌≤◌, vec_capacity}
-use Rattle.core_machine.specs.table.Layout.{table_length}
+use Rattle.std.proofs.Common.{sym, subst}
 use Rattle.heap_table.specs.CollectorHeld.{CollectorHeld}
 use Rattle.heap_table.specs.Folded.{AllFolded}
 use Rattle.heap_table.specs.Views.{known_by}
 use Rattle.heap_table.proofs.Histories.{read_words_are_last}
-use Rattle.heap_table.proofs.closing.CollectorHolder.close_into.Goals as goal
+use Rattle.heap_table.proofs.collector.CollectorHolder.close_into.Goals as goal
 
 pub read_all-requires-clause-folded : goal.read_all-requires-clause-folded
 read_all-requires-clause-folded g c = subst (λ (v : CollectorHeld). AllFolded v.heap v.known.seats) (sym c.self.view_is) c.requires.folded
