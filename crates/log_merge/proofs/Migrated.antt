@@ -1,14 +1,12 @@
 -- A history has one first line that isn't legal, and migrating leaves it where it is.
-use Rattle.std.proofs.Common.{◌≡◌, ℕ, List, [], ◌∷◌, ◌++◌, length, refl, sym, ap, ◌∙◌, subst, append_assoc}
+use Rattle.std.proofs.Common.{◌≡◌, ℕ, suc, ◌+◌, List, [], ◌∷◌, ◌++◌, length, refl, sym, ap, ◌∙◌, subst, append_assoc}
 use Rattle.std.proofs.lemmas.List.{append-nil}
 use Rattle.heap_model.specs.declared.heap.Heap.{Heap}
 use Rattle.heap_model.specs.declared.entry.Entry.{Entry}
 use Rattle.script_text.specs.declared.script.Form.{Form}
-use Rattle.reply_text.specs.declared.history.History.{History}
 use Rattle.reply_text.specs.declared.history_line.HistoryLine.{HistoryLine}
-use Rattle.reply_text.specs.Migration.{migrated_history}
-use Rattle.log_merge.specs.Lines.{entries_of, entry_of, IsFirstIllegal, IsFirstWrongLine, KeepLines, KeepsLine}
-use Rattle.log_merge.specs.Migration.{AreJudgedAlike, MigratingKeepsVerdicts}
+use Rattle.log_merge.specs.Lines.{entries_of, entry_of, IsFirstWrongLine, KeepLines, KeepsLine}
+use Rattle.log_merge.specs.Migration.{MigratingKeepsVerdicts}
 
 -- the line after these right ones isn't right
 abbrev Breaks : Form → Heap → List Entry → List HistoryLine → HistoryLine → Type 0
