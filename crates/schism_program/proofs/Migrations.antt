@@ -51,7 +51,7 @@ turned_round one other alike = record {
   legal = (alike.legal.1, alike.legal.0);
   count = sym alike.count;
   first = λ line. ((alike.first line).1, (alike.first line).0);
-  line_is_one = λ line again f g. alike.line_is_one line again ((alike.first line).1 f) ((alike.first again).1 g);
+  line_is_one = λ line again f g. alike.line_is_one line again ((alike.first line).1 f) ((alike.first again).0 g);
 }
 
 -- of a history
