@@ -115,7 +115,7 @@ module _ (preamble : Preamble) where
   lines_have_text way heap paced earlier [] told had all none = subst HaveText (sym none) tt
   lines_have_text way heap paced earlier (line ∷ more) told had all (here, rest, stands, others, is) =
       let first = line_has_text way heap paced earlier line here had all.0 stands in
-      let behind = lines_have_text way heap paced seats (earlier ++ here) more rest (all_of_append (HasText preamble.version) earlier here had first) all.1 others in
+      let behind = lines_have_text way heap paced (earlier ++ here) more rest (all_of_append (HasText preamble.version) earlier here had first) all.1 others in
       subst HaveText (sym is) (all_of_append (HasText preamble.version) here rest first behind)
 
   -- and behind the lines
