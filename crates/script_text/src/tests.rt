@@ -1,9 +1,13 @@
 //! Scripts of both versions: their faults, and what is migrated.
 
+ghost use Rattle.std.specs.Prelude.{IfOk};
+ghost use Rattle.script_text.specs.declared.script.Form.TheVariants.{Play};
+ghost use Rattle.script_text.specs.Writing.{IsOfForm};
+
 use crate::cause::{Cause, LineFault, ScriptFault};
 use crate::migrating::migrate_script;
 use crate::reading::read_script;
-use crate::script::Form;
+use crate::script::{Form, Script};
 use crate::text::write_script;
 use std::alloc::Global;
 use std::test::Fail;
@@ -83,10 +87,17 @@ const MIGRATED: &[(&str, &str)] = &[
     ),
 ];
 
+/// The script that the text is, which is one of a play.
+fn script_of(alloc: Global, text: &str) -> Result<Script, ScriptFault>
+    ensures { IfOk result (IsOfForm Play) }
+{
+    read_script(alloc, text.as_bytes(), Form::Play)
+}
+
 #[test]
 fn migrated(rt: HostRuntime) -> Result<(), Fail> {
     for (text, wanted) in MIGRATED {
-        let script = read_script(rt.alloc(), text.as_bytes(), Form::Play)?;
+        let script = script_of(rt.alloc(), text)?;
         let written = write_script(rt.alloc(), &migrate_script(script))?;
         assert_eq!(rt; written.as_slice(), wanted.as_bytes(), "of {text}");
     }
