@@ -1,6 +1,7 @@
 mod AccountLemmas
 mod LegalLemmas
 mod LineLemmas
+pub mod Migrated
 mod PassingLemmas
 pub mod SameLogs
 pub mod merge_lemmas

@@ -4,9 +4,11 @@
 mod checker;
 mod checking;
 mod fault;
+mod law;
 mod merging;
 mod totals;
 
 pub use checking::check;
 pub use fault::CheckFault;
+pub use law::law_migrated_verdict;
 pub use merging::merge;

@@ -1,6 +1,6 @@
 -- How a plan is told.
 use Rattle.std.specs.Prelude.{ℕ, List, [], ◌∷◌, ◌++◌, codes, decimal, map}
-use Rattle.heap_model.specs.declared.heap.Heap.{Heap}
+use Rattle.script_text.specs.declared.preamble.Preamble.{Preamble}
 use Rattle.script_text.specs.Text.{sentence}
 use Rattle.script_text.specs.Words.{heap_line}
 use Rattle.space_plan.specs.declared.report.CyclePlan.{CyclePlan}
@@ -34,6 +34,6 @@ full_line report = sentence (codes "full" ∷ decimal report.full ∷ [])
 abbrev pub total_lines : PlanReport → List (List ℕ)
 total_lines report = most_line report ∷ sizes_line report ∷ full_line report ∷ []
 
--- the lines of a plan
-abbrev pub plan_lines : Heap → PlanReport → List (List ℕ)
-plan_lines heap report = codes "plan 1" ∷ heap_line heap ∷ map cycle_line report.cycles.items ++ total_lines report
+-- the lines of a plan, with the heap line of the history that it is of
+abbrev pub plan_lines : Preamble → PlanReport → List (List ℕ)
+plan_lines preamble report = codes "plan 1" ∷ heap_line preamble ∷ map cycle_line report.cycles.items ++ total_lines report

@@ -3,8 +3,8 @@ ghost use Rattle.script_text.specs.Text.{text_of, words_with_spaces};
 ghost use Rattle.space_plan.specs.Text.{cycle_line, found_words, full_line, left_words, most_line, plan_lines, sizes_line, total_lines};
 
 use crate::report::{CyclePlan, PlanReport};
-use heap_model::{Heap, Memory};
-use script_text::{push_heap_line, push_named, push_number};
+use heap_model::Memory;
+use script_text::{Preamble, push_heap_line, push_named, push_number};
 use std::alloc::Global;
 
 /// Begins a line with the word and the number.
@@ -97,12 +97,16 @@ fn push_totals(text: &mut Vec<u8>, report: &PlanReport) -> Result<(), Memory>
     push_full(text, report)
 }
 
-/// The text of a plan: the heap of the history that it is of, a line for each cycle, and three of totals.
-pub fn render_plan(alloc: Global, heap: &Heap, report: &PlanReport) -> Result<Vec<u8>, Memory>
-    ensures { IfOk result (λ text. text.items ≡ text_of (plan_lines heap.now report.now)) }
+/// The text of a plan: the heap line of the history that it is of, a line for each cycle, and three of totals.
+pub fn render_plan(
+    alloc: Global,
+    preamble: &Preamble,
+    report: &PlanReport,
+) -> Result<Vec<u8>, Memory>
+    ensures { IfOk result (λ text. text.items ≡ text_of (plan_lines preamble.now report.now)) }
 {
     let mut text = Vec::from_slice(alloc, b"plan 1\n")?;
-    push_heap_line(&mut text, heap)?;
+    push_heap_line(&mut text, preamble)?;
     push_cycles(&mut text, report.cycles.as_slice())?;
     push_totals(&mut text, report)?;
     Ok(text)
