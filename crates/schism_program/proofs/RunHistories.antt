@@ -9,6 +9,7 @@ use Rattle.locked_heap.specs.Given.{Given, script_of}
 use Rattle.locked_heap.specs.Ran.{IsRun}
 use Rattle.heap_model.specs.runs.Endings.{EndsEmpty}
 use Rattle.locked_heap.proofs.HeapEntries.{run_entries_are_of_heap}
+use Rattle.log_merge.specs.Legal.{ShowsUse}
 use Rattle.script_text.specs.declared.preamble.Preamble.{Preamble}
 use Rattle.script_text.specs.declared.script.Script.{Script}
 use Rattle.script_text.specs.Words.{preamble_of}
@@ -26,7 +27,7 @@ history_is_run_of_script given ran script front history begins told same handed 
       form = refl;
       heap = refl;
       unmarked = refl;
-      legal = record { entries = whole.objects; mark = tt; end_used = run.used };
+      legal = record { entries = whole.objects; mark = tt; end_used = subst (λ (h : Heap). ShowsUse h ran.history.items ran.end_used) same run.used };
       whole = (whole, subst (λ (h : Heap). EndsEmpty h ran.history.items) same run.last_cycle);
       unturned = run_entries_are_of_heap given ran run;
       commands = λ number within.
