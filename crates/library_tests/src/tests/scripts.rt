@@ -1,10 +1,16 @@
 //! Scripts that are read, written and made.
 
+ghost use Rattle.std.specs.Prelude.{IfOk};
+ghost use Rattle.script_text.specs.declared.script.Form.TheVariants.{Play};
+ghost use Rattle.script_text.specs.Writing.{IsOfForm};
+
 use super::comparing::same;
 use heap_model::{Command, Heap, TurnCommand};
 use script_text::{
-    Form, Line, MOST_MADE_LINES, MOST_START, make_script, read_script, write_script,
+    Form, Line, MOST_MADE_LINES, MOST_START, Script, ScriptFault, make_script, read_script,
+    write_script,
 };
+use std::alloc::Global;
 use std::test::Fail;
 
 mod faults;
@@ -93,15 +99,18 @@ fn second_version(rt: HostRuntime) -> Result<(), Fail> {
     Ok(())
 }
 
+/// The script that the text is, which is one of a play.
+fn script_of(alloc: Global, text: &[u8]) -> Result<Script, ScriptFault>
+    ensures { IfOk result (IsOfForm Play) }
+{
+    read_script(alloc, text, Form::Play)
+}
+
 #[test]
 fn written(rt: HostRuntime) -> Result<(), Fail> {
     let run = b"schism 1\nheap 4096 16384 16\n15 poll\n0 collect\n".as_slice();
-    for (text, form) in [
-        (SCRIPT, Form::Play),
-        (run, Form::Run),
-        (SECOND_SCRIPT, Form::Play),
-    ] {
-        let script = read_script(rt.alloc(), text, form)?;
+    for text in [SCRIPT, run, SECOND_SCRIPT] {
+        let script = script_of(rt.alloc(), text)?;
         let written = write_script(rt.alloc(), &script)?;
         same(&rt, &written.as_slice(), &text, &text.len());
     }

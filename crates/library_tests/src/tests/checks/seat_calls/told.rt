@@ -13,6 +13,7 @@ use heap_table::{CollectorHolder, HeapTable};
 use mutator_seat::Seat;
 use script_text::{Line, make_script};
 use std::alloc::Global;
+use std::process::Abort;
 use std::test::Fail;
 
 /// How many lines each script has, and how many turns are made after each.
@@ -175,29 +176,50 @@ fn have_ended(turns: &[Turn]) -> bool {
     turns.iter().any(|turn| matches!(turn, Turn::Ended { .. }))
 }
 
+/// Plays the lines on a heap of either kind, and compares the replies, the turns, and what closing leaves.
+fn compare(
+    rt: &impl Abort,
+    alloc: Global,
+    heap: Heap,
+    lines: &[Line],
+    start: u32,
+) -> Result<(), Fail>
+    requires { IsHeap heap }
+{
+    let kept = played::<Log, Log>(alloc, heap, lines)?;
+    let told = played::<LastLog, CountedLog>(alloc, heap, lines)?;
+    same(
+        rt,
+        &told.replies.as_slice(),
+        &kept.replies.as_slice(),
+        &start,
+    );
+    same(rt, &told.turns.as_slice(), &kept.turns.as_slice(), &start);
+    holds(rt, were_refused(told.replies.as_slice()), &start);
+    holds(rt, have_ended(told.turns.as_slice()), &start);
+    let collector = folded(kept).ok_or("a seat hasn't left")?;
+    let closed = collector.close(alloc).map_err(|_| Memory)?;
+    let collector = folded(told).ok_or("a seat hasn't left")?;
+    let bare = collector.close_told(alloc).map_err(|_| Memory)?;
+    same(rt, &bare.words(), &closed.words(), &start);
+    same(rt, &bare.folded(), &closed.folded(), &start);
+    Ok(())
+}
+
+/// The heap of both kinds.
+fn small_heap() -> Result<Heap, Fail>
+    ensures { IfOk result IsHeap }
+{
+    let heap = Heap::make(6, 40, 2, 7).ok_or("the limits")?;
+    Ok(heap)
+}
+
 #[test]
 fn answers_alike_without_logs(rt: HostRuntime) -> Result<(), Fail> {
-    let alloc = rt.alloc();
+    let heap = small_heap()?;
     for start in [1u32, 2, 3, 4, 5] {
-        let heap = Heap::make(6, 40, 2, 7).ok_or("the limits")?;
-        let script = make_script(alloc, start, 2, LINES)?;
-        let kept = played::<Log, Log>(alloc, heap, script.lines.as_slice())?;
-        let told = played::<LastLog, CountedLog>(alloc, heap, script.lines.as_slice())?;
-        same(
-            &rt,
-            &told.replies.as_slice(),
-            &kept.replies.as_slice(),
-            &start,
-        );
-        same(&rt, &told.turns.as_slice(), &kept.turns.as_slice(), &start);
-        holds(&rt, were_refused(told.replies.as_slice()), &start);
-        holds(&rt, have_ended(told.turns.as_slice()), &start);
-        let collector = folded(kept).ok_or("a seat hasn't left")?;
-        let closed = collector.close(alloc).map_err(|_| Memory)?;
-        let collector = folded(told).ok_or("a seat hasn't left")?;
-        let bare = collector.close_told(alloc).map_err(|_| Memory)?;
-        same(&rt, &bare.words(), &closed.words(), &start);
-        same(&rt, &bare.folded(), &closed.folded(), &start);
+        let script = make_script(rt.alloc(), start, 2, LINES)?;
+        compare(&rt, rt.alloc(), heap, script.lines.as_slice(), start)?;
     }
     Ok(())
 }
