@@ -4,37 +4,24 @@ use Rattle.std.proofs.Math.Seq.{take-suc}
 use Rattle.std.proofs.lemmas.List.Elements.{All-get_or, All-from_recursion}
 use Rattle.heap_model.specs.declared.command.Command.{Command}
 use Rattle.heap_model.specs.declared.command.Command.TheVariants as commands
-use Rattle.heap_model.specs.Command.{IsCommand}
 use Rattle.heap_model.specs.calls.SeatCalls.{HasNumber}
+use Rattle.script_text.specs.declared.command_set.CommandSet.{CommandSet}
 use Rattle.script_text.specs.declared.script.Form.TheVariants.{Play}
 use Rattle.script_text.specs.declared.script.Line.{Line}
 use Rattle.script_text.specs.declared.script.Line.TheVariants as lines
 use Rattle.script_text.specs.declared.script.Script.{Script}
+use Rattle.script_text.specs.Commands.{version_commands}
 use Rattle.script_text.specs.Grammar.{IsLine, IsScripted}
+use Rattle.script_text.specs.Words.{preamble_of}
 use Rattle.script_text.specs.Writing.{IsOfForm}
+use Rattle.script_text.proofs.WordBytes.{scripted_command_is_in_range}
 use Rattle.heap_runs.specs.PlayHeap.{PlayState, MayCall, seat_state_of}
 use Rattle.heap_runs.specs.Playing.{DoesFew, IsThere, IsPlaying}
 
 -- no line of a script is a leave
-no_leave : (command : Command) → IsScripted command → command ≢ commands.Leave
-no_leave commands.Leave scripted = absurd scripted
-no_leave _ scripted = λ e. cc e
-
--- a command of a script has its numbers in their ranges
-in_range : (command : Command) → IsScripted command → IsCommand command
-in_range commands.Leave scripted = absurd scripted
-in_range (commands.New d fields) scripted = scripted
-in_range (commands.Array d cells) scripted = scripted
-in_range (commands.Get d r i) scripted = scripted
-in_range (commands.Set r i v) scripted = scripted
-in_range (commands.Cas r i a v) scripted = absurd scripted
-in_range (commands.Num d n) scripted = scripted
-in_range (commands.Nil d) scripted = scripted
-in_range (commands.Copy d r) scripted = scripted
-in_range (commands.Same a b) scripted = scripted
-in_range (commands.Len r) scripted = scripted
-in_range commands.Poll scripted = scripted
-in_range commands.Collect scripted = scripted
+no_leave : (has : CommandSet) (command : Command) → IsScripted has command → command ≢ commands.Leave
+no_leave has commands.Leave scripted = absurd scripted
+no_leave has _ scripted = λ e. cc e
 
 -- a seat that did little has numbers left
 numbers_left : (state : PlayState) (number calls : ℕ) (command : Command) → calls ≤ 65536 → DoesFew state number calls → HasNumber (seat_state_of state number) command
@@ -57,8 +44,8 @@ module _ (script : Script) (items : List Line) (i : ℕ) (d line : Line) (all : 
   line_is : get_or script.lines i d ≡ line
   line_is = ap (λ (ls : List Line). get_or ls i d) (sym all) ∙ is
 
-  line_of_form : IsLine Play script.heap.seats line
-  line_of_form = subst (IsLine Play script.heap.seats) line_is (All-get_or (IsLine Play script.heap.seats) script.lines i d here (All-from_recursion (IsLine Play script.heap.seats) script.lines form.lines))
+  line_of_form : IsLine Play (preamble_of script) line
+  line_of_form = subst (IsLine Play (preamble_of script)) line_is (All-get_or (IsLine Play (preamble_of script)) script.lines i d here (All-from_recursion (IsLine Play (preamble_of script)) script.lines form.lines))
 
 -- what a line of a seat asks for
 pub record IsNextCall (script : Script) (state : PlayState) (number : ℕ) (command : Command) : Type 0 where
@@ -74,10 +61,10 @@ is_next_call script items i d number command state all form below is plays =
       may = record {
         within = rw plays.of_heap line.0;
         present = plays.present number line.0;
-        in_range = in_range command line.1;
+        in_range = scripted_command_is_in_range (version_commands script.version) command line.1;
         numbered = numbers_left state number i command short (plays.few number line.0);
       };
-      stays = no_leave command line.1;
+      stays = no_leave (version_commands script.version) command line.1;
     }
 
 -- the next seat may leave

@@ -42,7 +42,7 @@ none_used empties heap told turned played gone cycle =
 pub script_is_played_whole : EachLastCycleEmpties → (Answered : List Line → List Entry → Type 0) (script : Script) (middle gone last : PlayState) (entries : List Entry) (mark : SpaceMark) (used : ℕ) (told : History)
     → Answered script.lines middle.entries → HaveLeft script.heap middle gone script.heap.seats → NotesLastCycle gone last → IsPlayed script.heap last.entries → entries ≡ last.entries
     → mark.before ≡ length middle.entries → ShowsUse script.heap middle.entries mark.used → mark.total ≡ 16 * script.heap.groups → mark.spine + words_returned middle.entries ≡ words_granted middle.entries → mark.budget ≡ script.heap.spine
-    → ShowsUse script.heap last.entries used → told ≡ record { form = forms.Play; heap = script.heap; entries = entries; mark = Some mark; end_used = used } → IsPlayThat Answered script told
+    → ShowsUse script.heap last.entries used → told ≡ record { version = script.version; form = forms.Play; heap = script.heap; entries = entries; mark = Some mark; end_used = used } → IsPlayThat Answered script told
 script_is_played_whole empties Answered script middle gone last entries mark used told answered left notes played listed before in_use total spine budget at_end is =
     let leaving : List Entry = flat_map (λ number. leave_entries number (left.left number)) (range_with_len 0 script.heap.seats) in
     let front = middle.entries in
@@ -53,6 +53,7 @@ script_is_played_whole empties Answered script middle gone last entries mark use
     let told_is : entries ≡ gone.entries ++ notes.turned = listed ∙ notes.told in
     let shown : ShowsCounts script.heap front mark = record { used = in_use; total = total; spine = spine; budget = budget } in
     rw is (record {
+      version = refl;
       form = refl;
       heap = refl;
       legal = record {

@@ -151,8 +151,9 @@ pub record IsParted (Answered : List Line → List Entry → Type 0) (script : S
   pub cycle : IsLastCycle turned
   pub behind_is : behind ≡ leaving ++ turned
 
--- the history is a play that answers the script's lines so: it is legal and parted by its mark, and at its end no fragment and no spine word is in use
+-- the history is a play that answers the script's lines so: it has the script's version, it is legal and parted by its mark, and at its end no fragment and no spine word is in use
 pub record IsPlayThat (Answered : List Line → List Entry → Type 0) (script : Script) (history : History) : Type 0 where
+  pub version : history.version ≡ script.version
   pub form : history.form ≡ forms.Play
   pub heap : history.heap ≡ script.heap
   pub legal : IsLegalHistory history

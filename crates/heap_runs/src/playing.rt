@@ -1,6 +1,7 @@
 ghost use Rattle.std.specs.Prelude.{◌≡◌, true, [], length, is_some, option_map, IfOk, OnOk};
 ghost use Rattle.std.specs.List.{AllByRecursion};
 ghost use Rattle.script_text.specs.declared.script.Form.TheVariants.{Play};
+ghost use Rattle.script_text.specs.Preamble.{usual_board};
 ghost use Rattle.script_text.specs.Writing.{IsOfForm};
 ghost use Rattle.reply_text.specs.Written.{HasText};
 ghost use Rattle.heap_runs.specs.Play.{IsPlay, IsPlayThat, StandForEach};
@@ -111,7 +112,8 @@ fn play_by<H: PlayHeap + Drop>(
     requires heap { heap ≡ script.now.heap }
     requires fresh { (H.state whole).entries ≡ [] }
     ensures played { IfOk result (IsPlayThat (StandForEach (StandsByWay way script.now.heap (is_some pace)) []) script.now) }
-    ensures spelled { IfOk result (λ history. AllByRecursion HasText history.entries) }
+    ensures spelled { IfOk result (λ history. AllByRecursion (HasText history.version) history.entries) }
+    ensures board { IfOk result (λ history. history.version ≡ 1 → history.heap.board ≡ usual_board) }
 {
     law_sweep_exact();
     let mut whole = answer_lines(whole, way, script, pace)?;
@@ -125,6 +127,7 @@ fn play_by<H: PlayHeap + Drop>(
     leave_all(&mut whole, script)?;
     make_last_cycle(&mut whole)?;
     Ok(History {
+        version: script.version,
         form: Form::Play,
         heap,
         end_used: in_use(&heap, whole.entries()),
@@ -146,7 +149,8 @@ pub fn play<H: PlayHeap + Drop>(
     requires heap { heap ≡ script.now.heap }
     requires form { IsOfForm Play script.now }
     ensures played { IfOk result (IsPlay (is_some pace) script.now) }
-    ensures spelled { IfOk result (λ history. AllByRecursion HasText history.entries) }
+    ensures spelled { IfOk result (λ history. AllByRecursion (HasText history.version) history.entries) }
+    ensures board { IfOk result (λ history. history.version ≡ 1 → history.heap.board ≡ usual_board) }
 {
     play_by(whole, Allocating::Once, heap, script, pace)
 }
@@ -163,7 +167,8 @@ pub fn play_pressed<W: PlayHeap + Drop>(
     requires fresh { (W.state whole).entries ≡ [] }
     requires form { IsOfForm Play script.now }
     ensures played { IfOk result (IsPressedPlay (is_some pace) script.now) }
-    ensures spelled { IfOk result (λ history. AllByRecursion HasText history.entries) }
+    ensures spelled { IfOk result (λ history. AllByRecursion (HasText history.version) history.entries) }
+    ensures board { IfOk result (λ history. history.version ≡ 1 → history.heap.board ≡ usual_board) }
 {
     play_by(whole, Allocating::Pressed, heap, script, pace)
 }

@@ -1,4 +1,4 @@
-pub mod FirstLines
+pub mod Migrations
 pub mod OneStatus
 pub mod SeatScripts
 pub mod RunHistories

@@ -1,5 +1,5 @@
 -- The scripts of the seats are those of a run.
-use Rattle.std.proofs.Common.{◌≡◌, ℕ, ◌+◌, ◌<◌, ◌≤◌, ◌==◌, Bool, true, false, if◌then◌else◌, List, [], ◌∷◌, ◌++◌, length, map, Vec, Global, sym, ap, ◌∙◌, subst, arith}
+use Rattle.std.proofs.Common.{◌≡◌, ◌≢◌, ℕ, ◌+◌, ◌<◌, ◌≤◌, ◌==◌, Bool, true, false, if◌then◌else◌, List, [], ◌∷◌, ◌++◌, length, map, Vec, Global, sym, ap, ◌∙◌, subst, arith}
 use Rattle.std.specs.Prelude.{All, slice_index_or}
 use Rattle.std.specs.List.{AllByRecursion, range_with_len}
 use Rattle.std.proofs.lemmas.List.{length-map}
@@ -9,12 +9,17 @@ use Rattle.std.proofs.Math.ListN.{get_or-map}
 use Rattle.heap_model.specs.declared.command.Command.{Command}
 use Rattle.heap_model.specs.declared.command.Command.TheVariants as commands
 use Rattle.locked_heap.specs.Given.{IsOfScript, IsSeatScript}
+use Rattle.script_text.specs.declared.command_set.CommandSet.{CommandSet}
+use Rattle.script_text.specs.declared.preamble.Preamble.{Preamble}
 use Rattle.script_text.specs.declared.script.Form.TheVariants.{Run}
 use Rattle.script_text.specs.declared.script.Line.{Line}
 use Rattle.script_text.specs.declared.script.Line.TheVariants as lines
 use Rattle.script_text.specs.declared.script.Script.{Script}
+use Rattle.script_text.specs.Commands.{version_commands}
 use Rattle.script_text.specs.Grammar.{IsLine, IsScripted}
+use Rattle.script_text.specs.Words.{preamble_of}
 use Rattle.script_text.specs.Writing.{IsOfForm}
+use Rattle.script_text.proofs.WordBytes.{scripted_command_is_in_range}
 use Rattle.schism_program.specs.Running.{seat_commands}
 
 -- the script of each seat, in the order of their numbers
@@ -26,20 +31,12 @@ abbrev pub items : Vec Command Global → List Command
 items script = script.items
 
 -- a command that a script may have is one of a seat's script
-of_script : (command : Command) → IsScripted command → IsOfScript command
-of_script (commands.New d fields) is = (is, λ same. cc)
-of_script (commands.Array d cells) is = (is, λ same. cc)
-of_script (commands.Get d r i) is = (is, λ same. cc)
-of_script (commands.Set r i v) is = (is, λ same. cc)
-of_script (commands.Cas r i a v) is = absurd is
-of_script (commands.Num d n) is = (is, λ same. cc)
-of_script (commands.Nil d) is = (is, λ same. cc)
-of_script (commands.Copy d r) is = (is, λ same. cc)
-of_script (commands.Same a b) is = (is, λ same. cc)
-of_script (commands.Len r) is = (is, λ same. cc)
-of_script commands.Poll is = (is, λ same. cc)
-of_script commands.Collect is = (is, λ same. cc)
-of_script commands.Leave is = absurd is
+not_leave : (has : CommandSet) (command : Command) → IsScripted has command → command ≢ commands.Leave
+not_leave has commands.Leave is = absurd is
+not_leave has _ is = λ same. cc same
+
+of_script : (has : CommandSet) (command : Command) → IsScripted has command → IsOfScript command
+of_script has command is = (scripted_command_is_in_range has command is, not_leave has command is)
 
 -- the command of a line is one more at most
 few_more : (own : Bool) (command : Command) (rest : List Command) (n : ℕ) → length rest ≤ n → length ((if own then command ∷ [] else []) ++ rest) ≤ n + 1
@@ -57,16 +54,16 @@ all_more : (own : Bool) (command : Command) (rest : List Command) → IsOfScript
 all_more true command rest is all = (is, all)
 all_more false command rest is all = all
 
-all_commands : (seats number : ℕ) (script : List Line) → AllByRecursion (IsLine Run seats) script → AllByRecursion IsOfScript (seat_commands number script)
-all_commands seats number [] all = tt
-all_commands seats number (lines.Seat other command ∷ more) all = all_more (other == number) command (seat_commands number more) (of_script command all.0.1) (all_commands seats number more all.1)
-all_commands seats number (lines.Turns command ∷ more) all = absurd all.0
+all_commands : (front : Preamble) (number : ℕ) (script : List Line) → AllByRecursion (IsLine Run front) script → AllByRecursion IsOfScript (seat_commands number script)
+all_commands front number [] all = tt
+all_commands front number (lines.Seat other command ∷ more) all = all_more (other == number) command (seat_commands number more) (of_script (version_commands front.version) command all.0.1) (all_commands front number more all.1)
+all_commands front number (lines.Turns command ∷ more) all = absurd all.0
 
 -- so what each seat is handed is a script
 pub seat_commands_are_script : (number : ℕ) (script : Script) → IsOfForm Run script → IsSeatScript (seat_commands number script.lines)
 seat_commands_are_script number script of_form = record {
   few = omega (arith, few_commands number script.lines, of_form.short);
-  each = All-from_recursion IsOfScript (seat_commands number script.lines) (all_commands script.heap.seats number script.lines of_form.lines);
+  each = All-from_recursion IsOfScript (seat_commands number script.lines) (all_commands (preamble_of script) number script.lines of_form.lines);
 }
 
 -- there is one for each seat

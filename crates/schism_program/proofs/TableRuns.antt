@@ -24,6 +24,7 @@ use Rattle.heap_table.specs.Opened.{IsOpened}
 use Rattle.heap_table.specs.SeatHeld.{SeatHeld}
 use Rattle.log_merge.proofs.SameLogs.{snoc_is_injective, same_totals, keep_each_others_logs}
 use Rattle.script_text.specs.declared.script.Script.{Script}
+use Rattle.script_text.specs.Words.{preamble_of}
 use Rattle.heap_model.specs.account.Account.{IsLegal}
 use Rattle.heap_model.specs.account.Space.{fragments_gained, fragments_lost}
 use Rattle.heap_runs.specs.Finishing.{HasLogs, EndsUnused}
@@ -113,10 +114,11 @@ module _ (patience : ℕ) (scripts : List (List Command)) (script : Script) (clo
       (parts.0 ∙ ap (λ m. map (λ n. filter (is_of n) merged) (range_with_len 0 m)) (sym many)) number (omega arith) (omega (arith, within, many))
 
   -- the merged entries are a run of the script
-  pub merged_is_run_of_script : ((number : ℕ) → number < script.heap.seats → script_at scripts number ≡ seat_commands number script.lines) → IsRunOf false script (merged_history script.heap merged)
+  pub merged_is_run_of_script : ((number : ℕ) → number < script.heap.seats → script_at scripts number ≡ seat_commands number script.lines) → IsRunOf false script (merged_history (preamble_of script) merged)
   merged_is_run_of_script handed =
       let totals = same_totals script.heap merged one.history legal legal_too same in
       record {
+        version = refl;
         form = refl;
         heap = refl;
         unmarked = refl;
@@ -138,5 +140,5 @@ module _ (patience : ℕ) (scripts : List (List Command)) (script : Script) (clo
       }
 
   -- and the table's
-  pub merged_is_of_table : IsOfTable (merged_history script.heap merged) closed
+  pub merged_is_of_table : IsOfTable (merged_history (preamble_of script) merged) closed
   merged_is_of_table = record { heap_is = heap_is; logs_are = kept; unused = unused }

@@ -3,6 +3,7 @@ pub mod Serving
 pub mod Running
 pub mod Verdict
 pub mod Planning
+pub mod Migrating
 pub mod WorkFaults
 pub mod Works
 pub mod Outcome

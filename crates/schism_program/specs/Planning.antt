@@ -6,7 +6,7 @@ use Rattle.script_text.specs.declared.script.Form.TheVariants.{Play, Run}
 use Rattle.script_text.specs.Text.{text_of}
 use Rattle.reply_text.specs.declared.history.History.{History}
 use Rattle.reply_text.specs.read.Faults.{first_history_fault}
-use Rattle.reply_text.specs.History.{IsHistory}
+use Rattle.reply_text.specs.History.{IsHistory, history_preamble}
 use Rattle.log_merge.specs.Legal.{IsLegalHistory}
 use Rattle.space_plan.specs.declared.report.PlanReport.{PlanReport}
 use Rattle.space_plan.specs.plan.Report.{IsPlan}
@@ -25,7 +25,7 @@ pub record PlansSpace (input text : List ℕ) : Type 0 where
   pub is : IsPlayText input
   pub report : PlanReport
   pub planned : IsPlan is.history report
-  pub told : text ≡ text_of (plan_lines is.history.heap report)
+  pub told : text ≡ text_of (plan_lines (history_preamble is.history) report)
 
 -- the input is a history of a run
 pub record IsRunText (input : List ℕ) : Type 0 where

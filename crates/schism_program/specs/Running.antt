@@ -11,6 +11,7 @@ use Rattle.heap_model.specs.account.Space.{words_granted, words_returned}
 use Rattle.heap_model.specs.account.Turned.{is_of_heap}
 use Rattle.heap_model.specs.runs.Endings.{EndsBehindLeaves, EndsEmpty}
 use Rattle.heap_model.specs.runs.Told.{commands_told}
+use Rattle.script_text.specs.declared.preamble.Preamble.{Preamble}
 use Rattle.script_text.specs.declared.script.Form.TheVariants as forms
 use Rattle.script_text.specs.declared.script.Line.{Line}
 use Rattle.script_text.specs.declared.script.Line.TheVariants as lines
@@ -39,8 +40,9 @@ abbrev pub IsWholeRun : Bool → Heap → List Entry → Type 0
 IsWholeRun true heap entries = IsLegal heap false entries × EndsEmpty heap entries
 IsWholeRun false heap entries = (other : List Entry) × KeepsLogs entries other × IsLegal heap false other × EndsBehindLeaves heap other
 
--- the history is that of a run of the script: each seat answers its own lines and leaves, and at the end nothing is in use
+-- the history is that of a run of the script, in its version: each seat answers its own lines and leaves, and at the end nothing is in use
 pub record IsRunOf (locked : Bool) (script : Script) (history : History) : Type 0 where
+  pub version : history.version ≡ script.version
   pub form : history.form ≡ forms.Run
   pub heap : history.heap ≡ script.heap
   pub unmarked : history.mark ≡ None
@@ -53,9 +55,9 @@ pub record IsRunOf (locked : Bool) (script : Script) (history : History) : Type 
   pub none_used : history.end_used ≡ 0
   pub all_returned : words_returned history.entries ≡ words_granted history.entries
 
--- the history that tells what a run came to
-abbrev pub run_history : Heap → LockedRan → History
-run_history heap ran = record { form = forms.Run; heap = heap; entries = ran.history.items; mark = None; end_used = ran.end_used }
+-- the history that tells what a run came to, behind the first two lines of its script
+abbrev pub run_history : Preamble → LockedRan → History
+run_history front ran = record { version = front.version; form = forms.Run; heap = front.heap; entries = ran.history.items; mark = None; end_used = ran.end_used }
 
 -- the text tells a run of the input's script
 pub record Runs (locked : Bool) (input text : List ℕ) : Type 0 where
@@ -85,6 +87,6 @@ pub record RunsOnTable (input text : List ℕ) (closed : ClosedTable) : Type 0 w
   pub rendered : text ≡ text_of (history_lines history)
   pub tabled : IsOfTable history closed
 
--- the history that tells a run of these entries, at whose end nothing is in use
-abbrev pub merged_history : Heap → List Entry → History
-merged_history heap entries = record { form = forms.Run; heap = heap; entries = entries; mark = None; end_used = 0 }
+-- the history that tells a run of these entries, at whose end nothing is in use, behind the first two lines of its script
+abbrev pub merged_history : Preamble → List Entry → History
+merged_history front entries = record { version = front.version; form = forms.Run; heap = front.heap; entries = entries; mark = None; end_used = 0 }

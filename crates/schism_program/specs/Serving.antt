@@ -40,7 +40,7 @@ pub record Plays (press paced brief : Bool) (input text : List ℕ) : Type 0 whe
 -- the text is that of the script that is made from this start, for so many seats and of so many lines
 abbrev pub IsMadeText : ℕ → ℕ → ℕ → List ℕ → Type 0
 IsMadeText start seats lines text =
-    let script = made_script start seats lines in (text ≡ text_of (script_lines script.heap script.lines)) × IsScript forms.Play text script
+    let script = made_script start seats lines in (text ≡ text_of (script_lines script)) × IsScript forms.Play text script
 
 -- the first fault of the input as a script of this form is this line's cause
 abbrev pub FailsAsScript : Form → List ℕ → ℕ → Cause → Type 0

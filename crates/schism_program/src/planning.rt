@@ -36,6 +36,6 @@ pub fn plan_text(alloc: Global, input: &[u8]) -> Result<Vec<u8>, WorkFault>
 {
     let history = play_history_of(alloc, input)?;
     let report = plan(alloc, &history)?;
-    let text = render_plan(alloc, &history.heap, &report)?;
+    let text = render_plan(alloc, &history.preamble(), &report)?;
     Ok(text)
 }

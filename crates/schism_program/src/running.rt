@@ -8,10 +8,10 @@ ghost use Rattle.schism_program.specs.Serving.{FailsAsScript};
 use crate::fault::WorkFault;
 use crate::serving::script_of;
 use core_machine::Machine;
-use heap_model::{Command, Gate, Heap, Memory};
+use heap_model::{Command, Gate, Memory};
 use locked_heap::{LockedRan, run_locked};
 use reply_text::{History, render_history};
-use script_text::{Form, Line, Script, Sequence};
+use script_text::{Form, Line, Preamble, Script, Sequence};
 use slack_pace::Pace;
 use std::alloc::Global;
 use std::sync::Wait;
@@ -47,13 +47,14 @@ pub fn scripts_of(alloc: Global, script: &Script) -> Result<Vec<Vec<Command>>, M
     Ok(scripts)
 }
 
-/// The history that a run came to.
-fn history_of(heap: Heap, ran: LockedRan) -> History
-    ensures { result ≡ run_history heap ran }
+/// The history that a run came to, of a script that begins so.
+fn history_of(front: Preamble, ran: LockedRan) -> History
+    ensures { result ≡ run_history front ran }
 {
     History {
+        version: front.version,
         form: Form::Run,
-        heap,
+        heap: front.heap,
         entries: Sequence::from_vec(ran.history),
         mark: None,
         end_used: ran.end_used,
@@ -79,7 +80,7 @@ pub fn run_text<G: Gate, R: Threads + Wait + Sync>(
     let scripts = scripts_of(alloc, &script)?;
     let machine = Machine::make(alloc, script.heap)?;
     let ran = run_locked(rt, alloc, machine, scripts.as_slice(), pace, patience, gate)?;
-    let history = history_of(script.heap, ran);
+    let history = history_of(script.preamble(), ran);
     let text = render_history(alloc, &history)?;
     Ok(text)
 }

@@ -1,17 +1,20 @@
 ghost use Rattle.std.specs.Prelude.{◌≡◌, ℕ, None, Err, IfOk, IsSome, is_some};
 ghost use Rattle.std.specs.List.{AllByRecursion};
-ghost use Rattle.form_words.specs.Works.{IsWork, MayBeMade};
+ghost use Rattle.form_words.specs.Works.{IsWork};
 ghost use Rattle.script_text.specs.declared.cause.LineFault.{LineFault as ALineFault};
 ghost use Rattle.script_text.specs.declared.script.Form.TheVariants.{Play};
 ghost use Rattle.script_text.specs.Grammar.{IsScript};
+ghost use Rattle.script_text.specs.Preamble.{usual_board};
 ghost use Rattle.script_text.specs.Writing.{IsOfForm};
 ghost use Rattle.script_text.specs.Text.{text_of};
 ghost use Rattle.reply_text.specs.Written.{HasText};
-ghost use Rattle.schism_program.specs.Serving.{told_lines, FailsAsScript, IsMadeText, IsPlayBy, Plays};
+ghost use Rattle.schism_program.specs.Serving.{told_lines, FailsAsScript, IsPlayBy, Plays};
 ghost use Rattle.schism_program.specs.Works.{FailsAt, IsIllegalAt, LeavesTable, MakesText};
 
 use crate::fault::WorkFault;
 use crate::made::Made;
+use crate::making::made_script_text;
+use crate::migrating::migrated_text;
 use crate::planning::plan_text;
 use crate::running::run_text;
 use crate::table_run::run_on_table;
@@ -20,7 +23,7 @@ use form_words::{PaceName, Work};
 use heap_model::{Gate, Memory};
 use heap_runs::{MachineHeap, play, play_pressed};
 use reply_text::{History, render_brief, render_history};
-use script_text::{Form, Script, make_script, read_script, write_script};
+use script_text::{Form, Script, read_script};
 use slack_pace::{Pace, Paces};
 use std::alloc::Global;
 use std::sync::Wait;
@@ -42,7 +45,8 @@ pub fn script_of(alloc: Global, input: &[u8], form: Form) -> Result<Script, Work
 fn told_text(alloc: Global, history: &History, brief: bool) -> Result<Vec<u8>, Memory>
     requires play { history.now.form ≡ Play }
     requires marked { IsSome history.now.mark }
-    requires spelled { AllByRecursion HasText history.now.entries }
+    requires spelled { AllByRecursion (HasText history.now.version) history.now.entries }
+    requires board { history.now.version ≡ 1 → history.now.heap.board ≡ usual_board }
     ensures { IfOk result (λ text. text.items ≡ text_of (told_lines brief history.now)) }
 {
     if brief {
@@ -63,7 +67,8 @@ fn played(
     ensures played { IfOk result (IsPlayBy press (is_some pace) script.now) }
     ensures play { IfOk result (λ history. history.form ≡ Play) }
     ensures marked { IfOk result (λ history. IsSome history.mark) }
-    ensures spelled { IfOk result (λ history. AllByRecursion HasText history.entries) }
+    ensures spelled { IfOk result (λ history. AllByRecursion (HasText history.version) history.entries) }
+    ensures board { IfOk result (λ history. history.version ≡ 1 → history.heap.board ≡ usual_board) }
 {
     let whole = MachineHeap::make(alloc, script.heap)?;
     if press {
@@ -91,16 +96,6 @@ fn played_text(
     let history = played(alloc, &script, pace, press)?;
     drop(script);
     let text = told_text(alloc, &history, brief)?;
-    Ok(text)
-}
-
-/// The text of a script that is made.
-fn made_script_text(alloc: Global, start: u32, seats: u8, lines: u32) -> Result<Vec<u8>, Memory>
-    requires { MayBeMade start seats lines }
-    ensures { IfOk result (λ text. IsMadeText start seats lines text.items) }
-{
-    let script = make_script(alloc, start, seats, lines)?;
-    let text = write_script(alloc, &script)?;
     Ok(text)
 }
 
@@ -190,6 +185,10 @@ pub fn made_work<G: Gate, R: Threads + Wait + Sync>(
             lines,
         } => {
             let text = made_script_text(alloc, start, seats, lines)?;
+            Ok(text_alone(text))
+        }
+        Work::Migrate(kind) => {
+            let text = migrated_text(alloc, kind, input)?;
             Ok(text_alone(text))
         }
     }

@@ -10,12 +10,12 @@ use crate::running::scripts_of;
 use crate::serving::script_of;
 use collector_turns::Collector;
 use core_machine::Log;
-use heap_model::{Entry, Gate, Heap, Memory};
+use heap_model::{Entry, Gate, Memory};
 use heap_runs::{Ran, run_seats, seats_of};
 use heap_table::{Closed, HeapTable};
 use log_merge::merge;
 use reply_text::{History, render_history};
-use script_text::{Form, Script, Sequence};
+use script_text::{Form, Preamble, Script, Sequence};
 use slack_pace::Pace;
 use std::alloc::Global;
 use std::sync::Wait;
@@ -28,13 +28,14 @@ pub struct TableRun {
     pub closed: Closed,
 }
 
-/// The history that tells a run of these entries, at whose end nothing is in use.
-fn history_of(heap: Heap, entries: Vec<Entry>) -> History
-    ensures { result ≡ merged_history heap entries.items }
+/// The history that tells a run of these entries, at whose end nothing is in use, of a script that begins so.
+fn history_of(front: Preamble, entries: Vec<Entry>) -> History
+    ensures { result ≡ merged_history front entries.items }
 {
     History {
+        version: front.version,
         form: Form::Run,
-        heap,
+        heap: front.heap,
         entries: Sequence::from_vec(entries),
         mark: None,
         end_used: 0,
@@ -76,7 +77,7 @@ fn told_run<G: Gate, R: Threads + Wait + Sync>(
         gate,
     )?;
     let entries = merge(alloc, closed.logs(), script.heap)?;
-    let history = history_of(script.heap, entries);
+    let history = history_of(script.preamble(), entries);
     Ok(ToldRun { history, closed })
 }
 

@@ -1,6 +1,7 @@
 //! Tests of what the program makes of words and bytes.
 
 mod arrays;
+mod boards;
 mod collects;
 mod comparing;
 mod copies;
@@ -10,6 +11,7 @@ mod forms;
 mod histories;
 mod judged;
 mod limits;
+mod migrations;
 mod runs;
 mod scripts;
 mod several_seats;
@@ -17,6 +19,7 @@ mod sides;
 mod statuses;
 mod tables;
 mod turns;
+mod versions;
 
 use crate::status::Status;
 use crate::top::schism;

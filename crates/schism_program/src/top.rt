@@ -27,9 +27,9 @@ fn leave(closed: &mut Option<Closed>, table: Option<Closed>)
     *closed = table;
 }
 
-/// Plays or runs the script that the source gives, or checks the history, or plans space by it, or makes a script, as the words ask, and writes what comes
-/// of it to the sink. The whole text stands before the first byte is written. The runtime and the gate are for a run alone: what the other forms
-/// call to make their text (`played_text`, `verdict`, `plan_text`, `made_script_text`) takes neither, and has no bound by which it may start a thread or wait.
+/// Plays or runs the script that the source gives, or checks the history, or plans space by it, or migrates one of them, or makes a script, as the words ask,
+/// and writes what comes of it to the sink. The whole text stands before the first byte is written. The runtime and the gate are for a run alone: what the other forms
+/// call to make their text (`played_text`, `verdict`, `plan_text`, `migrated_text`, `made_script_text`) takes neither, and has no bound by which it may start a thread or wait.
 /// `closed` gets the table on which a run without the lock went, with its words and logs; whatever it held before is dropped.
 pub fn schism<S: Source, K: Sink, G: Gate, R: Threads + Wait + Sync>(
     rt: &R,

@@ -1,7 +1,9 @@
 ghost use Rattle.std.specs.Prelude.{◌≡◌, ◌++◌, ◌∷◌, [], ℕ, length, Err, IfOk, Some};
+ghost use Rattle.std.specs.List.{AllByRecursion};
 ghost use Rattle.script_text.specs.declared.cause.LineFault.{LineFault as ALineFault};
 ghost use Rattle.reply_text.specs.read.Faults.{first_history_fault};
 ghost use Rattle.reply_text.specs.History.{IsHistory};
+ghost use Rattle.reply_text.specs.Written.{HasText};
 ghost use Rattle.schism_program.specs.Verdict.{FindsIllegal, FindsLegal, verdict_line};
 
 use crate::fault::WorkFault;
@@ -14,6 +16,7 @@ use std::alloc::Global;
 /// The history that the input is.
 pub fn history_of(alloc: Global, input: &[u8]) -> Result<History, WorkFault>
     ensures ok { IfOk result (IsHistory input.now) }
+    ensures spelled { IfOk result (λ history. AllByRecursion (HasText history.version) history.entries) }
     ensures refused { (fault : ALineFault) → result ≡ Err (WorkFault.Refused fault) →
         first_history_fault input.now ≡ Some fault }
     ensures legal { (line : ℕ) → result ≡ Err (WorkFault.NotLegal line) → ⊥ }

@@ -102,8 +102,10 @@ fn tells_a_plan(rt: HostRuntime) -> Result<(), Fail> {
 }
 
 /// A play on the least board, of version 2, and its plan as a text.
-const LEAST_BOARD: &[u8] = b"history 2 play\nheap 1 0 1 1\nspace used 1 of 16 spine 0 of 0\n0 leave = ok\n\
+const LEAST_BOARD: &[u8] =
+    b"history 2 play\nheap 1 0 1 1\nspace used 1 of 16 spine 0 of 0\n0 leave = ok\n\
     c phase 1\nc phase 2\nc phase 3\nc phase 4\nc phase 5\nc frees 1\nc phase 6\nc ends 0 kept 0\nend used 0\n";
+
 const LEAST_BOARD_PLAN: &[u8] = b"plan 1\nheap 1 0 1 1\n\
     cycle 0 reach 0 since 0 bound 0 used 0 kept 0\nmost reach 1 takes 0 need 0\ngroups 1 turns 325\nfull 0\n";
 

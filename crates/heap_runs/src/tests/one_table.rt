@@ -36,6 +36,16 @@ const SCRIPTS: [&str; 18] = [
     "heap 1 0 1\n0 new 1 1\n0 set 0 31 1\n0 nil 1\n0 collect\n0 get 2 0 31\n",
 ];
 
+/// Worked scripts of version 2: compare and swap on a board of two fields, with its replies, and while the barrier is on; boards that leave room, and one that leaves none; two seats that swap
+/// one field; and a record that hangs on the last field of a board.
+const SECOND_SCRIPTS: [&str; 5] = [
+    "heap 1 0 1 2\n0 num 1 7\n0 cas 0 1 5 1\n0 cas 0 1 5 1\n0 get 2 0 1\n0 num 3 8\n0 cas 0 1 2 3\n0 cas 0 2 5 1\n0 cas 9 0 5 1\n",
+    "heap 2 0 1 1\n0 new 1 2\n0 new 2 2\n0 set 0 0 1\n0 get 3 0 0\nc cycle\n0 poll\nc cycle\n0 cas 0 0 3 2\n0 nil 1\n0 nil 2\n0 nil 3\n0 collect\n0 get 4 0 0\n",
+    "heap 1 0 1 47\n0 len 0\n0 new 1 1\n0 set 0 46 0\n0 get 1 0 46\n",
+    "heap 1 0 2 3\n0 num 1 5\n1 num 1 6\n0 cas 0 2 9 1\n1 cas 0 2 9 1\n1 get 2 0 2\n1 cas 0 2 2 1\n0 cas 0 2 9 1\n",
+    "heap 1 4 1 46\n0 array 1 1\n0 set 0 45 0\n0 collect\n0 get 2 0 45\n",
+];
+
 /// What the parties of one table tell of the script, of the seats' leaves, and of a last whole cycle.
 fn told_by_one_table(alloc: Global, script: &Script) -> Result<Vec<Entry>, Memory>
     requires { IsHeap script.now.heap }
@@ -65,17 +75,25 @@ fn are_those_of(told: &[Entry], entries: &[Entry]) -> bool {
     rest.next().is_none()
 }
 
+/// Whether the parties of one table tell of the script what the heap over the machine tells.
+fn tell_the_same(alloc: Global, text: &str) -> Result<bool, Fail> {
+    let script = script_of(alloc, text)?;
+    let told = told_by_one_table(alloc, &script)?;
+    let whole = MachineHeap::make(alloc, script.heap)?;
+    let history = play(whole, script.heap, &script, None)?;
+    Ok(are_those_of(told.as_slice(), history.entries.as_slice()))
+}
+
 #[test]
 fn one_table_tells_what_the_machine_tells(rt: HostRuntime) -> Result<(), Fail> {
     let alloc = rt.alloc();
     for lines in SCRIPTS {
         let text = format!(in alloc; "schism 1\n{lines}")?;
-        let script = script_of(alloc, text.as_str())?;
-        let told = told_by_one_table(alloc, &script)?;
-        let whole = MachineHeap::make(alloc, script.heap)?;
-        let history = play(whole, script.heap, &script, None)?;
-        let entries = history.entries.as_slice();
-        assert!(rt; are_those_of(told.as_slice(), entries), "{lines}");
+        assert!(rt; tell_the_same(alloc, &text)?, "{lines}");
+    }
+    for lines in SECOND_SCRIPTS {
+        let text = format!(in alloc; "schism 2\n{lines}")?;
+        assert!(rt; tell_the_same(alloc, &text)?, "{lines}");
     }
     Ok(())
 }

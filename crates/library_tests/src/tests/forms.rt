@@ -1,13 +1,13 @@
 //! The words after the program's name, and the work that they ask for.
 
 use super::comparing::same;
-use form_words::{PaceName, Work};
+use form_words::{PaceName, TextKind, Work};
 use heap_model::Memory;
 use std::alloc::Global;
 use std::test::Fail;
 
 /// Words that are no form, each with one space between two.
-const NO_FORMS: [&str; 54] = [
+const NO_FORMS: [&str; 61] = [
     "plays",
     "Check",
     "play extra",
@@ -62,6 +62,13 @@ const NO_FORMS: [&str; 54] = [
     "make 1 1 32769",
     "make 01 1 1",
     "make 1 1 +1",
+    "migrate",
+    "migrate scripts",
+    "migrate Script",
+    "migrate script history",
+    "migrate script --brief",
+    "migrate -- script",
+    "script migrate",
 ];
 
 /// Words with a space in one of them, which are no form either.
@@ -117,6 +124,12 @@ const MAKINGS: [(&str, u32, u8, u32); 2] = [
     ("make 0 1 0", 0, 1, 0),
 ];
 
+/// Words by which a text is migrated, each with its kind and the most bytes of one.
+const MIGRATIONS: [(&str, TextKind, usize); 2] = [
+    ("migrate script", TextKind::Script, 1_048_572),
+    ("migrate history", TextKind::History, 16_777_212),
+];
+
 /// The work that the words in the line ask for.
 fn asked(alloc: Global, line: &str) -> Result<Option<Work>, Memory> {
     let words: Vec<&str> = line.split(' ').collect(alloc)?;
@@ -165,6 +178,11 @@ fn asks_for_the_work_of_a_form(rt: HostRuntime) -> Result<(), Fail> {
     for (line, work) in [("check", Work::Check), ("plan", Work::Plan)] {
         same(&rt, &asked(alloc, line), &Ok(Some(work)), &line);
         same(&rt, &work.most_bytes(), &Some(16_777_216), &line);
+    }
+    for (line, kind, most) in MIGRATIONS {
+        let work = Work::Migrate(kind);
+        same(&rt, &asked(alloc, line), &Ok(Some(work)), &line);
+        same(&rt, &work.most_bytes(), &Some(most), &line);
     }
     Ok(())
 }

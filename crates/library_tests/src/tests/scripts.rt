@@ -75,10 +75,32 @@ fn each_command(rt: HostRuntime) -> Result<(), Fail> {
     Ok(())
 }
 
+const SECOND_SCRIPT: &[u8] = b"schism 2\nheap 4 8 2 47\n0 cas 0 4096 15 1\n1 collect\n";
+
+#[test]
+fn second_version(rt: HostRuntime) -> Result<(), Fail> {
+    let script = read_script(rt.alloc(), SECOND_SCRIPT, Form::Run)?;
+    same(&rt, &script.version, &2, &"the version");
+    same(&rt, &script.heap.board, &47, &"the board");
+    let swap = Command::Cas {
+        r: 0,
+        i: 4096,
+        a: 15,
+        v: 1,
+    };
+    let wanted = [seat(0, swap), seat(1, Command::Collect)];
+    same(&rt, &script.lines.as_slice(), &wanted.as_slice(), &"lines");
+    Ok(())
+}
+
 #[test]
 fn written(rt: HostRuntime) -> Result<(), Fail> {
     let run = b"schism 1\nheap 4096 16384 16\n15 poll\n0 collect\n".as_slice();
-    for (text, form) in [(SCRIPT, Form::Play), (run, Form::Run)] {
+    for (text, form) in [
+        (SCRIPT, Form::Play),
+        (run, Form::Run),
+        (SECOND_SCRIPT, Form::Play),
+    ] {
         let script = read_script(rt.alloc(), text, form)?;
         let written = write_script(rt.alloc(), &script)?;
         same(&rt, &written.as_slice(), &text, &text.len());

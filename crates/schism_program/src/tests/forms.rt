@@ -10,7 +10,7 @@ use std::test::Fail;
 use std::thread::Threads;
 
 /// Words, and the status to which they come where the first call of each side would fail: so neither side is touched where it is Usage.
-const STATUSES: [(&[&str], Status); 11] = [
+const STATUSES: [(&[&str], Status); 16] = [
     (&[], Status::Usage),
     (&["plays"], Status::Usage),
     (&[" play"], Status::Usage),
@@ -22,6 +22,11 @@ const STATUSES: [(&[&str], Status); 11] = [
     (&["check"], Status::ReadFault),
     (&["make", "0", "1", "0"], Status::WriteFault),
     (&["make", "0", "17", "0"], Status::Usage),
+    (&["migrate"], Status::Usage),
+    (&["migrate", "texts"], Status::Usage),
+    (&["migrate", "script", "history"], Status::Usage),
+    (&["migrate", "script"], Status::ReadFault),
+    (&["migrate", "history"], Status::ReadFault),
 ];
 
 /// What the words in the line write of the text.

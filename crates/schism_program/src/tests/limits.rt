@@ -4,8 +4,9 @@ use super::comparing::{holds, tells};
 use super::several_seats::plays;
 use super::{ended, refused, status_of, told};
 use crate::status::Status;
-use io_edge::{MemSink, MemSource};
+use io_edge::{MemSink, MemSource, NeverSink, NeverSource};
 use script_text::Cause;
+use std::alloc::Global;
 use std::test::Fail;
 
 #[test]
@@ -59,4 +60,51 @@ fn plays_on_the_largest_heap(rt: HostRuntime) -> Result<(), Fail> {
         "history 1 play; heap 4096 16384 16; space used 11 of 65536 spine 0 of 16384; 0 leave = ok; 1 leave = ok; 2 leave = ok; 3 leave = ok; 4 leave = ok; 5 leave = ok; 6 leave = ok; 7 leave = ok; 8 leave = ok; 9 leave = ok; 10 leave = ok; 11 leave = ok; 12 leave = ok; 13 leave = ok; 14 leave = ok; 15 leave = ok; c phase 1; c phase 2; c phase 3; c phase 4; c phase 5; c frees 11; c phase 6; c ends 0 kept 0; end used 0";
     let script = "schism 1; heap 4096 16384 16";
     plays(&rt, rt.alloc(), &[(script, history, "legal 24")])
+}
+
+#[test]
+fn reads_four_bytes_less_of_what_is_migrated(rt: HostRuntime) -> Result<(), Fail> {
+    let alloc = rt.alloc();
+    for (kind, count, status) in [
+        ("script", 1_048_572, refused(1, Cause::NoHeader)),
+        ("script", 1_048_573, Status::TooLong),
+        ("history", 16_777_212, refused(1, Cause::NoHeader)),
+        ("history", 16_777_213, Status::TooLong),
+    ] {
+        let text = vec![in alloc; b' '; count]?;
+        let mut source = MemSource::new(text, 4096, Vec::new(alloc));
+        let mut sink = MemSink::new(Vec::new(alloc), 8, Vec::new(alloc));
+        let end = status_of(&rt, alloc, &["migrate", kind], &mut source, &mut sink)?;
+        holds(&rt, end == status, &count);
+    }
+    Ok(())
+}
+
+/// A script of as many bytes as may be migrated: 20 of its first two lines, and 19 for each of the others, the last of which lacks its line feed.
+fn longest_script(alloc: Global) -> Result<Vec<u8>, Fail> {
+    let mut text = Vec::from_slice(alloc, b"schism 1\nheap 1 0 1\n")?;
+    for _ in 0..55_186 {
+        text.extend_from_slice(b"0 num 1 1073741823\n")?;
+    }
+    text.extend_from_slice(b"0 num 1 1073741823")?;
+    Ok(text)
+}
+
+// It gets four bytes more, which is as many as a play reads.
+#[test]
+fn plays_the_longest_script_that_was_migrated(rt: HostRuntime) -> Result<(), Fail> {
+    let alloc = rt.alloc();
+    let text = longest_script(alloc)?;
+    holds(&rt, text.len() == 1_048_572, &"the length");
+    let mut source = NeverSource::new(text);
+    let mut sink = NeverSink::new(Vec::with_capacity(alloc, 1_048_576)?);
+    let end = status_of(&rt, alloc, &["migrate", "script"], &mut source, &mut sink)?;
+    holds(&rt, end == Status::Done, &"the migration");
+    let migrated = Vec::from_slice(alloc, sink.bytes().unwrap_or(&[]))?;
+    holds(&rt, migrated.len() == 1_048_576, &"the length then");
+    let told = told(&rt, alloc, "play --brief", &migrated)?;
+    let brief =
+        b"brief 1\nheap 1 0 1 32\ncommands 55187 refused 0\nmade 0 cycles 1 freed 11 swung 0\nspace used 11 of 16 spine 0 of 0\nend used 0\n";
+    tells(&rt, &told, Status::Done, brief, &"the longest script");
+    Ok(())
 }

@@ -5,6 +5,7 @@ mod gates;
 mod judging;
 mod paced;
 mod past_pace;
+mod second;
 
 use super::comparing::{holds, tells};
 use super::several_seats::text_of;

@@ -14,43 +14,44 @@ use std::sync::Wait;
 use std::test::Fail;
 use std::thread::Threads;
 
-/// What comes of the word and the text where each call of a side moves one byte, and the calls of these numbers fail, one of each side; and what was written.
+/// What comes of the words in the line and the text where each call of a side moves one byte, and the calls of these numbers fail, one of each side; and what was written.
 fn ended_by_bytes(
     rt: &(impl Threads + Wait + Sync),
     alloc: Global,
-    word: &str,
+    line: &str,
     text: &str,
     read: usize,
     write: usize,
 ) -> Result<(Status, Vec<u8>), AllocError> {
+    let words: Vec<&str> = line.split(' ').collect(alloc)?;
     let text = Vec::from_slice(alloc, text.as_bytes())?;
     let mut source = MemSource::new(text, 1, vec![in alloc; read as u64; 1]?);
     let room = Vec::with_capacity(alloc, 512)?;
     let mut sink = MemSink::new(room, 1, vec![in alloc; write as u64; 1]?);
-    let status = status_of(rt, alloc, &[word], &mut source, &mut sink)?;
+    let status = status_of(rt, alloc, &words, &mut source, &mut sink)?;
     Ok((status, Vec::from_slice(alloc, sink.bytes())?))
 }
 
-/// Lets each call of the word fail in turn, by which it reads the text or writes this; the read that finds the text's end is one of them.
+/// Lets each call of the words in the line fail in turn, by which it reads the text or writes this; the read that finds the text's end is one of them.
 fn fails_at_each_call(
     rt: &(impl Abort + Threads + Wait + Sync),
     alloc: Global,
-    word: &str,
+    line: &str,
     text: &str,
     wanted: &str,
 ) -> Result<(), Fail> {
     let (reads, writes) = (text.len(), wanted.len());
     for read in 0..=reads {
-        let told = ended_by_bytes(rt, alloc, word, text, read, usize::MAX)?;
+        let told = ended_by_bytes(rt, alloc, line, text, read, usize::MAX)?;
         tells(rt, &told, Status::ReadFault, b"", &read);
     }
     for write in 0..writes {
-        let told = ended_by_bytes(rt, alloc, word, text, usize::MAX, write)?;
+        let told = ended_by_bytes(rt, alloc, line, text, usize::MAX, write)?;
         let front = wanted.as_bytes().get(..write).ok_or("a front")?;
         tells(rt, &told, Status::WriteFault, front, &write);
     }
-    let told = ended_by_bytes(rt, alloc, word, text, reads + 1, writes)?;
-    tells(rt, &told, Status::Done, wanted.as_bytes(), &word);
+    let told = ended_by_bytes(rt, alloc, line, text, reads + 1, writes)?;
+    tells(rt, &told, Status::Done, wanted.as_bytes(), &line);
     Ok(())
 }
 
@@ -62,7 +63,15 @@ fn says_which_side_failed(rt: HostRuntime) -> Result<(), Fail> {
     fails_at_each_call(&rt, alloc, "play", &script, &played)?;
     let (_, history, _) = RESERVE;
     let history = text_of(alloc, history)?;
-    fails_at_each_call(&rt, alloc, "check", &history, "legal 29\n")
+    fails_at_each_call(&rt, alloc, "check", &history, "legal 29\n")?;
+    let migrated = "schism 2\nheap 1 0 1 32\n0 poll\n";
+    fails_at_each_call(
+        &rt,
+        alloc,
+        "migrate script",
+        "schism 1\nheap 1 0 1\n0 poll",
+        migrated,
+    )
 }
 
 // What is told of the text, where there is room for so many bytes of it.

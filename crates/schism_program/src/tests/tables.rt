@@ -13,7 +13,7 @@ use std::thread::Threads;
 
 /// Lines of words, one after another, the text that each is given, and whether a table is left: only a run without the lock that is done leaves one, and the next work takes away what
 /// the one before has left.
-const WORKS: [(&str, &str, bool); 8] = [
+const WORKS: [(&str, &str, bool); 10] = [
     ("run", "schism 1\nheap 1 0 1\n0 new 1 2\n", true),
     ("run --locked", "schism 1\nheap 1 0 1\n0 new 1 2\n", false),
     ("run --patience 3", "schism 1\nheap 1 0 2\n1 poll\n", true),
@@ -21,6 +21,8 @@ const WORKS: [(&str, &str, bool); 8] = [
     ("run", "schism 1\nheap 1 0 1\n", true),
     ("play", "schism 1\nheap 1 0 1\n0 new 1 2\n", false),
     ("make 1 1 4", "", false),
+    ("run", "schism 2\nheap 1 0 1 47\n0 new 1 2\n", true),
+    ("migrate script", "schism 1\nheap 1 0 1\n", false),
     ("run again", "schism 1\nheap 1 0 1\n", false),
 ];
 

@@ -1,7 +1,7 @@
 -- What the rules of space say within a history that keeps them: at each entry, and of each seat after its replies.
-use Rattle.std.proofs.Common.{◌≡◌, ℕ, ◌+◌, ◌-◌, ◌≤◌, List, [], ◌∷◌, ◌++◌, inl, inr, Bool, true, false, ◌||◌, append_assoc, refl, sym, ap, ◌∙◌, subst, arith}
+use Rattle.std.proofs.Common.{◌≡◌, ℕ, ◌+◌, ◌≤◌, List, [], ◌∷◌, ◌++◌, inl, inr, true, false, append_assoc, refl, sym, ap, ◌∙◌, subst, arith}
 use Rattle.std.specs.List.{list_any}
-use Rattle.std.proofs.lemmas.Bool.{cases_Bool, cond-true, cond-false, eqb-true, or_parts}
+use Rattle.std.proofs.lemmas.Bool.{cases_Bool, cond-true, eqb-true, or_parts}
 use Rattle.std.proofs.lemmas.List.{append-nil}
 use Rattle.heap_model.specs.declared.command.Command.{Command}
 use Rattle.heap_model.specs.declared.command.Command.TheVariants as commands
@@ -12,7 +12,7 @@ use Rattle.heap_model.specs.account.Effects.{effect_of}
 use Rattle.heap_model.specs.account.PhaseCounts.{phase}
 use Rattle.heap_model.specs.account.Account.{KeepsSpace, KeepsSpaceAfter, MakesOfOwn, most_kept}
 use Rattle.heap_model.specs.account.Space.{total_of, taken_of, spent_of, fragments_unborn, made_by}
-use Rattle.heap_model.specs.account.Windows.{begins_cycle, is_reply_to, up_to_last, after_last, up_to_reply}
+use Rattle.heap_model.specs.account.Windows.{begins_cycle, is_reply_to, after_last, up_to_reply}
 use Rattle.heap_model.proofs.Histories.{total-more, total_of-more}
 use Rattle.heap_model.proofs.account_lemmas.Fronts.{front_keeps_rules, back_keeps_rules}
 use Rattle.heap_model.proofs.account_lemmas.LastEntries.{no_last, has_last, parted_at_last}

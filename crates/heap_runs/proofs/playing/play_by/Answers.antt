@@ -7,7 +7,7 @@ use Rattle.log_merge.specs.Legal.{ShowsUse}
 use Rattle.heap_runs.specs.Play.{StandForEach}
 use Rattle.heap_runs.specs.PlayHeap.{PlayState, IsPlayed}
 use Rattle.heap_runs.specs.Pressed.{StandsByWay}
-use Rattle.heap_runs.proofs.PlayTexts.{play_has_text}
+use Rattle.heap_runs.proofs.PlayTexts.{play_has_board, play_has_text}
 use Rattle.heap_runs.proofs.Whole.{script_is_played_whole}
 use Rattle.heap_runs.proofs.playing.play_by.Goals as goal
 
@@ -36,3 +36,6 @@ returns-clause-played g c =
 
 pub returns-clause-spelled : goal.returns-clause-spelled
 returns-clause-spelled g c = play_has_text c.args.way (is_some c.args.pace) c.args.script.now _ c.requires.form (returns-clause-played g c)
+
+pub returns-clause-board : goal.returns-clause-board
+returns-clause-board g c = play_has_board (StandForEach (StandsByWay c.args.way c.args.script.now.heap (is_some c.args.pace)) []) c.args.script.now _ c.requires.form (returns-clause-played g c)

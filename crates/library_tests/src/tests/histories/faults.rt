@@ -19,13 +19,17 @@ const NO_HEADER: &[&str] = &[
     "\nhistory 1 play\n",
     "schism 1\nheap 1 0 1\n",
     "history 1 play \nheap 1 0 1\n",
-    "history 2 run\nheap 1 0 1\n",
+    "history 3 run\nheap 1 0 1 5\n",
+    "history 2\nheap 1 0 1 5\n",
 ];
 
 const BAD_HEAP: &[&str] = &[
     "history 1 play",
     "history 1 run\n",
     "history 1 run\nheap 1 0 17\nend used 0\n",
+    "history 1 run\nheap 1 0 1 32\nend used 0\n",
+    "history 2 run\nheap 1 0 1\nend used 0\n",
+    "history 2 play\nheap 1 0 1 48\n",
 ];
 
 const NO_THIRD_LINE: &[&str] = &["history 1 play\nheap 1 0 1\n"];
@@ -40,6 +44,8 @@ const BAD_THIRD_LINE: &[&str] = &[
     "history 1 run\nheap 1 0 1\nspace used 1 of 2 spine 3 of 4\nend used 0\n",
     "history 1 run\nheap 1 0 1\nc turns 1 = done\nend used 0\n",
     "history 1 run\nheap 1 0 1\nc cycle = cycle 0\nend used 0\n",
+    "history 1 run\nheap 1 0 1\n0 cas 0 1 5 1 = was -\nend used 0\n",
+    "history 2 run\nheap 1 0 1 5\nc cycle = cycle 0\nend used 0\n",
 ];
 
 const BAD_FOURTH_LINE: &[&str] = &[
@@ -55,6 +61,8 @@ const NO_FAULT: &[&str] = &[
     "history 1 run\nheap 1 0 1\nend used 0",
     "history 1 run\nheap 4096 16384 16\n15 poll = 0\nend used 0\n",
     "history 1 play\nheap 1 0 1\nspace used 1 of 2 spine 3 of 4\nend used 0\n",
+    "history 2 run\nheap 1 0 1 1\nend used 0",
+    "history 2 run\nheap 4096 16384 16 47\n15 cas 15 4096 15 15 = now -\nend used 0\n",
 ];
 
 #[test]

@@ -5,11 +5,16 @@ use super::fault_of;
 use reply_text::{read_history, render_history};
 use script_text::Cause;
 use std::alloc::{AllocError, Global};
+use std::process::Abort;
 use std::test::Fail;
 
-/// A history of two seats with this line as its only entry.
-fn around(alloc: Global, line: &[u8]) -> Result<Vec<u8>, AllocError> {
-    let mut text = Vec::from_slice(alloc, b"history 1 play\nheap 2 4 2\n")?;
+const FIRST_HEAD: &str = "history 1 play\nheap 2 4 2\n";
+
+const SECOND_HEAD: &str = "history 2 play\nheap 2 4 2 5\n";
+
+/// A history of two seats with this head, that of version 1 or 2, and this line as its only entry.
+fn around(alloc: Global, head: &str, line: &[u8]) -> Result<Vec<u8>, AllocError> {
+    let mut text = Vec::from_slice(alloc, head.as_bytes())?;
     text.extend_from_slice(line)?;
     text.extend_from_slice(b"\nspace used 11 of 32 spine 0 of 4\nend used 18446744073709551615\n")?;
     Ok(text)
@@ -65,14 +70,34 @@ const LINES: &[&str] = &[
     "c turns 0 = done",
 ];
 
+/// Lines of version 2 alone.
+const SECOND_LINES: &[&str] = &[
+    "0 cas 0 1 5 1 = was -",
+    "1 cas 15 4096 0 15 = was 15:67108863",
+    "0 cas 0 1 5 1 = now 0:1",
+    "0 cas 0 1 5 1 = now -",
+    "0 cas 5 0 0 0 = no object",
+    "0 cas 0 5 0 0 = no field",
+];
+
+/// Reads this line behind this head, and writes what was read.
+fn reads(rt: &(impl Abort + AllocGlobal), head: &str, line: &str) -> Result<(), Fail> {
+    let text = around(rt.alloc(), head, line.as_bytes())?;
+    let history = read_history(rt.alloc(), &text)?;
+    same(rt, &history.entries.as_slice().len(), &1, &line);
+    let written = render_history(rt.alloc(), &history)?;
+    same(rt, &written.as_slice(), &text.as_slice(), &line);
+    Ok(())
+}
+
 #[test]
 fn each_line(rt: HostRuntime) -> Result<(), Fail> {
     for line in LINES {
-        let text = around(rt.alloc(), line.as_bytes())?;
-        let history = read_history(rt.alloc(), &text)?;
-        same(&rt, &history.entries.as_slice().len(), &1, line);
-        let written = render_history(rt.alloc(), &history)?;
-        same(&rt, &written.as_slice(), &text.as_slice(), line);
+        reads(&rt, FIRST_HEAD, line)?;
+        reads(&rt, SECOND_HEAD, line)?;
+    }
+    for line in SECOND_LINES {
+        reads(&rt, SECOND_HEAD, line)?;
     }
     Ok(())
 }
@@ -142,12 +167,40 @@ const BAD_LINES: &[&str] = &[
     "space used 11 of 32 spine 0 of 04",
 ];
 
+/// Lines that version 2 hasn't either.
+const BAD_SECOND_LINES: &[&str] = &[
+    "0 cas 16 1 5 1 = was -",
+    "0 cas 0 4097 5 1 = was -",
+    "0 cas 0 1 5 = was -",
+    "0 cas 0 1 5 1 1 = was -",
+    "0 cas 0 1 5 1",
+    "0 cas 0 1 5 1 = ok",
+    "0 cas 0 1 5 1 = now",
+    "0 cas 0 1 5 1 = now 0:0",
+    "0 cas 0 1 5 1 = now 0:1 1",
+    "0 set 0 1 5 = now 0:1",
+    "2 cas 0 1 5 1 = was -",
+];
+
+/// Refuses this line behind this head.
+fn refuses(rt: &(impl Abort + AllocGlobal), head: &str, line: &str) -> Result<(), Fail> {
+    let text = around(rt.alloc(), head, line.as_bytes())?;
+    let found = fault_of(rt.alloc(), &text);
+    same(rt, &found, &Some(Cause::BadEntry.at(3)), &line);
+    Ok(())
+}
+
 #[test]
 fn bad_lines(rt: HostRuntime) -> Result<(), Fail> {
     for line in BAD_LINES {
-        let text = around(rt.alloc(), line.as_bytes())?;
-        let found = fault_of(rt.alloc(), &text);
-        same(&rt, &found, &Some(Cause::BadEntry.at(3)), line);
+        refuses(&rt, FIRST_HEAD, line)?;
+        refuses(&rt, SECOND_HEAD, line)?;
+    }
+    for line in SECOND_LINES {
+        refuses(&rt, FIRST_HEAD, line)?;
+    }
+    for line in BAD_SECOND_LINES {
+        refuses(&rt, SECOND_HEAD, line)?;
     }
     Ok(())
 }

@@ -5,6 +5,7 @@ use super::RESERVE;
 use heap_model::{Entry, Id};
 use reply_text::{History, SpaceMark, read_history, render_brief, render_entry, render_history};
 use script_text::Form;
+use std::alloc::Global;
 use std::test::Fail;
 
 const ONE_FRAGMENT: &[u8] = b"history 1 play\nheap 1 0 1\n\
@@ -14,10 +15,24 @@ const ONE_FRAGMENT: &[u8] = b"history 1 play\nheap 1 0 1\n\
     c phase 1\nc phase 2\nc phase 3\nc phase 4\nc phase 5\nc frees 12\nc phase 6\nc ends 0 kept 0\n\
     end used 0\n";
 
+// A board of two fields takes one fragment.
+const SMALL_BOARD: &[u8] = b"history 2 play\nheap 1 0 1 2\n\
+    0 num 1 7 = ok\n0 cas 0 1 5 1 = was -\n0 cas 0 1 5 1 = now 0:1\n\
+    space used 1 of 16 spine 0 of 0\n\
+    0 leave = ok\n\
+    c phase 1\nc phase 2\nc phase 3\nc phase 4\nc phase 5\nc frees 1\nc phase 6\nc ends 0 kept 0\n\
+    end used 0\n";
+
 #[test]
 fn whole(rt: HostRuntime) -> Result<(), Fail> {
-    for (text, entries, before, used) in [(ONE_FRAGMENT, 12, 2, 16), (RESERVE, 29, 19, 15)] {
+    for (text, version, board, entries, before, used) in [
+        (ONE_FRAGMENT, 1, 32, 12, 2, 16),
+        (RESERVE, 1, 32, 29, 19, 15),
+        (SMALL_BOARD, 2, 2, 12, 3, 1),
+    ] {
         let history = read_history(rt.alloc(), text)?;
+        same(&rt, &history.version, &version, &entries);
+        same(&rt, &history.heap.board, &board, &entries);
         same(&rt, &history.form, &Form::Play, &entries);
         same(&rt, &history.entries.as_slice().len(), &entries, &entries);
         let mark = SpaceMark {
@@ -60,6 +75,24 @@ const MIXED: &[u8] = b"history 1 play\nheap 2 4 2\n\
 const MIXED_BRIEF: &[u8] = b"brief 1\nheap 2 4 2\ncommands 7 refused 4\n\
     made 2 cycles 2 freed 4294967302 swung 1\nspace used 27 of 32 spine 1 of 4\nend used 5\n";
 
+/// The brief of the play that the text is, which has this mark.
+fn brief_of(alloc: Global, text: &[u8], mark: SpaceMark) -> Result<Vec<u8>, Fail> {
+    let read = read_history(alloc, text)?;
+    if read.mark != Some(mark) {
+        return Err("another mark".into());
+    }
+    let play = History {
+        form: Form::Play,
+        mark: Some(mark),
+        ..read
+    };
+    Ok(render_brief(alloc, &play)?)
+}
+
+// A play of version 2 is told by the same lines, of which the heap line has the board.
+const SMALL_BRIEF: &[u8] = b"brief 1\nheap 1 0 1 2\ncommands 3 refused 0\n\
+    made 0 cycles 1 freed 1 swung 0\nspace used 1 of 16 spine 0 of 0\nend used 0\n";
+
 #[test]
 fn brief(rt: HostRuntime) -> Result<(), Fail> {
     let mark = SpaceMark {
@@ -69,14 +102,24 @@ fn brief(rt: HostRuntime) -> Result<(), Fail> {
         spine: 1,
         budget: 4,
     };
-    let read = read_history(rt.alloc(), MIXED)?;
-    same(&rt, &read.mark, &Some(mark), &"the mark");
-    let play = History {
-        form: Form::Play,
-        mark: Some(mark),
-        ..read
+    same(
+        &rt,
+        &brief_of(rt.alloc(), MIXED, mark)?.as_slice(),
+        &MIXED_BRIEF,
+        &"the brief",
+    );
+    let mark = SpaceMark {
+        before: 3,
+        used: 1,
+        total: 16,
+        spine: 0,
+        budget: 0,
     };
-    let brief = render_brief(rt.alloc(), &play)?;
-    same(&rt, &brief.as_slice(), &MIXED_BRIEF, &"the brief");
+    same(
+        &rt,
+        &brief_of(rt.alloc(), SMALL_BOARD, mark)?.as_slice(),
+        &SMALL_BRIEF,
+        &"of version 2",
+    );
     Ok(())
 }

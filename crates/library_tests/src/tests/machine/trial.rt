@@ -1,14 +1,11 @@
 //! What is done on a machine and what is found there, as texts.
 
-ghost use Rattle.std.specs.Prelude.{IsTrue};
-ghost use Rattle.reply_text.specs.Written.{HasText};
-
 use super::calls::{begin, call, due, inner, log, machine_of, seen, step, turn, word};
 use super::reading::{address_of, command_of, inner_of, number, stretch};
 use super::texts::{due_text, step_text, turn_text};
 use crate::tests::comparing::same;
 use core_machine::{Machine, MakingStep, Step};
-use heap_model::{Command, Entry};
+use heap_model::Entry;
 use reply_text::render_entry;
 use std::alloc::Global;
 use std::process::Abort;
@@ -64,16 +61,6 @@ fn finds(
     Ok(())
 }
 
-/// Whether the entry may stand in a text, which a cas doesn't yet.
-fn has_text(entry: &Entry) -> bool
-    ensures { IsTrue result → HasText entry.now }
-{
-    match *entry {
-        Entry::Said { command, .. } => !matches!(command, Command::Cas { .. }),
-        _ => true,
-    }
-}
-
 /// What comes of the deed.
 fn found(alloc: Global, machine: &mut Machine, deed: &str) -> Result<String, Fail> {
     if deed == "free" {
@@ -97,9 +84,6 @@ fn found(alloc: Global, machine: &mut Machine, deed: &str) -> Result<String, Fai
     for entry in log(machine, party)?.iter().skip(before) {
         if !text.is_empty() {
             text.push_str("; ")?;
-        }
-        if !has_text(entry) {
-            return Err("no text".into());
         }
         let line = render_entry(alloc, entry)?;
         text.push_str(str::from_utf8(&line).ok().ok_or("no text")?)?;

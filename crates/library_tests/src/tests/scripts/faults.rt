@@ -24,7 +24,8 @@ fn each_has(rt: &(impl Abort + AllocGlobal), texts: &[&str], wanted: Option<Line
 const NO_HEADER: &[&str] = &[
     "",
     "\n",
-    "schism 2\nheap 4 8 2\n",
+    "schism 3\nheap 4 8 2\n",
+    "schism 2 \nheap 4 8 2 5\n",
     "schism 1 \nheap 4 8 2\n",
     "schism 1\r\nheap 4 8 2\r\n",
     "schism  1\nheap 4 8 2\n",
@@ -46,9 +47,21 @@ const BAD_HEAP: &[&str] = &[
     "schism 1\nheap 4 8 0\n",
     "schism 1\nheap 4 8 17\n",
     "schism 1\nheap 4 8 257\n",
+    "schism 1\nheap 4 8 2 32\n",
+    "schism 2\nheap 4 8 2\n",
+    "schism 2\nheap 4 8 2 5 5\n",
+    "schism 2\nheap 4 8 2 0\n",
+    "schism 2\nheap 4 8 2 48\n",
+    "schism 2\nheap 4 8 2 05\n",
+    "schism 2\nheap 4 8 2 261\n",
 ];
 
-const NO_FAULT: &[&str] = &["schism 1\nheap 1 0 1", "schism 1\nheap 4096 16384 16\n"];
+const NO_FAULT: &[&str] = &[
+    "schism 1\nheap 1 0 1",
+    "schism 1\nheap 4096 16384 16\n",
+    "schism 2\nheap 1 0 1 1",
+    "schism 2\nheap 4096 16384 16 47\n15 cas 15 4096 15 15\n",
+];
 
 /// The first of the faults is in line 4.
 const LATER_FAULTS: &[&str] = &["schism 1\nheap 4 8 2\n0 poll\n1 nil 16\n9\n"];
@@ -61,12 +74,16 @@ fn heads(rt: HostRuntime) {
     each_has(&rt, LATER_FAULTS, Some(Cause::OutOfRange.at(4)));
 }
 
-/// The fault of a script whose only line after its head is this one.
-fn fault_of_line(alloc: Global, line: &[u8]) -> Result<Option<LineFault>, AllocError> {
-    let mut text = Vec::from_slice(alloc, b"schism 1\nheap 4 8 2\n")?;
+/// The fault of a script whose only line after its head, that of version 1 or 2, is this one.
+fn fault_of_line(alloc: Global, head: &str, line: &[u8]) -> Result<Option<LineFault>, AllocError> {
+    let mut text = Vec::from_slice(alloc, head.as_bytes())?;
     text.extend_from_slice(line)?;
     Ok(fault_of(alloc, &text, Form::Play))
 }
+
+const FIRST_HEAD: &str = "schism 1\nheap 4 8 2\n";
+
+const SECOND_HEAD: &str = "schism 2\nheap 4 8 2 5\n";
 
 const NO_SEAT: &[&str] = &[
     "\n",
@@ -89,6 +106,8 @@ const NO_COMMAND: &[&str] = &[
     "0 poll\r\n",
     "0 poll\0\n",
     "0 leave\n",
+    "0 cas 0 1 5 1\n",
+    "0 cas\n",
     "0 turns 1\n",
     "0 cycle\n",
     "c\n",
@@ -154,17 +173,43 @@ fn line_faults(rt: HostRuntime) -> Result<(), Fail> {
         (TOO_MANY_WORDS, Cause::TooManyWords),
     ] {
         for line in lines {
-            let found = fault_of_line(rt.alloc(), line.as_bytes())?;
+            let found = fault_of_line(rt.alloc(), FIRST_HEAD, line.as_bytes())?;
             same(&rt, &found, &Some(cause.at(3)), line);
         }
     }
-    let found = fault_of_line(rt.alloc(), b"0 nil \xff\n")?;
+    let found = fault_of_line(rt.alloc(), FIRST_HEAD, b"0 nil \xff\n")?;
     same(
         &rt,
         &found,
         &Some(Cause::BadNumber.at(3)),
         &"a byte that is no text",
     );
+    Ok(())
+}
+
+/// Lines of version 2, each with the cause of its fault.
+const SECOND_FAULTS: &[(&str, Cause)] = &[
+    ("2 cas 0 1 5 1\n", Cause::NoSeat),
+    ("0 Cas 0 1 5 1\n", Cause::NoCommand),
+    ("0 leave\n", Cause::NoCommand),
+    ("c cas 0 1 5 1\n", Cause::NoCommand),
+    ("0 cas\n", Cause::BadNumber),
+    ("0 cas 0 1 5\n", Cause::BadNumber),
+    ("0 cas 0 01 5 1\n", Cause::BadNumber),
+    ("0 cas 16 1 5 1\n", Cause::OutOfRange),
+    ("0 cas 0 4097 5 1\n", Cause::OutOfRange),
+    ("0 cas 0 1 16 x\n", Cause::OutOfRange),
+    ("0 cas 0 1 5 16\n", Cause::OutOfRange),
+    ("0 cas 0 1 5 1 1\n", Cause::TooManyWords),
+    ("0 set 0 1 5 1\n", Cause::TooManyWords),
+];
+
+#[test]
+fn second_version_faults(rt: HostRuntime) -> Result<(), Fail> {
+    for (line, cause) in SECOND_FAULTS {
+        let found = fault_of_line(rt.alloc(), SECOND_HEAD, line.as_bytes())?;
+        same(&rt, &found, &Some(cause.at(3)), line);
+    }
     Ok(())
 }
 

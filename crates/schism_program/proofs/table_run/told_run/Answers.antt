@@ -1,9 +1,11 @@
-use Rattle.std.proofs.Common.{List, false, map, sym, ap, subst, ◌∙◌}
+use Rattle.std.proofs.Common.{◌≡◌, List, false, map, sym, ap, subst, ◌∙◌}
 use Rattle.std.proofs.lemmas.List.{length-map}
 use Rattle.heap_model.specs.Logs.{logs_of}
 use Rattle.heap_model.specs.declared.entry.Entry.{Entry}
 use Rattle.heap_model.specs.declared.heap.Heap.{Heap}
 use Rattle.heap_model.specs.graph.Legal.{IsObjectLegal}
+use Rattle.script_text.specs.declared.preamble.Preamble.{Preamble}
+use Rattle.script_text.specs.Words.{preamble_of}
 use Rattle.reply_text.specs.declared.history.History.{History}
 use Rattle.heap_table.specs.Known.{CollectorKnown}
 use Rattle.heap_table.specs.SeatHeld.{SeatHeld}
@@ -12,7 +14,7 @@ use Rattle.collector_turns.specs.Collector.{CollectorValue}
 use Rattle.heap_runs.specs.Finishing.{HasLogs}
 use Rattle.heap_runs.specs.SeatWork.{HaveWorked}
 use Rattle.heap_runs.proofs.OpenedSeats.{holders_are_all_seats, seats_may_run}
-use Rattle.schism_program.specs.Running.{IsRunOf, IsOfTable}
+use Rattle.schism_program.specs.Running.{merged_history, IsRunOf, IsOfTable}
 use Rattle.schism_program.proofs.SeatScripts.{items, handed_script_is_seats, seat_commands_are_script, scripts_are_one_each}
 use Rattle.schism_program.proofs.TableRuns.{merged_is_run_of_script, merged_is_of_table, opened_holders_told_none}
 use Rattle.schism_program.proofs.table_run.told_run.Goals as goal
@@ -54,11 +56,12 @@ returns g c =
     let logs = subst (λ (l : List Entry). HasLogs ran.worked l closed) no_log ran.logs in
     let worked = subst (λ (l : List SeatHeld). HaveWorked c.args.patience (map items scripts) l ran.worked) c.in_ok-seats.ensures ran.have_worked in
     let many = holders_are_all_seats script.heap (map items scripts) made.collector made.holders.items made.ensures.heap made.ensures.numbers made.ensures.each in
+    let told : c.history_of-history.result ≡ merged_history (preamble_of script) merged.entries.items = c.history_of-history.ensures ∙ ap (λ (f : Preamble). merged_history f merged.entries.items) c.preamble.ensures in
     let none = opened_holders_told_none made.collector.table script.heap made.holders.items made.ensures.each in
     record {
-      ran = subst (IsRunOf false script) (sym c.history_of-history.ensures)
+      ran = subst (IsRunOf false script) (sym told)
           (merged_is_run_of_script c.args.patience (map items scripts) script closed merged.entries.items made.holders.items ran.worked heap_is merged.ensures.legal kept ran.unused logs made.ensures.numbers many none worked
           (λ number below. handed_script_is_seats scripts script number below handed));
-      tabled = subst (λ (h : History). IsOfTable h closed) (sym c.history_of-history.ensures)
+      tabled = subst (λ (h : History). IsOfTable h closed) (sym told)
           (merged_is_of_table c.args.patience (map items scripts) script closed merged.entries.items made.holders.items ran.worked heap_is merged.ensures.legal kept ran.unused logs made.ensures.numbers many none worked);
     }

@@ -1,4 +1,4 @@
-use Rattle.std.proofs.Common.{◌≡◌, ◌≤◌, [], true, sym, ◌∙◌, ap, subst}
+use Rattle.std.proofs.Common.{◌≤◌, [], true, sym, ◌∙◌, ap, subst}
 use Rattle.std.specs.Prelude.{count_by}
 use Rattle.heap_model.specs.account.Account.{KeepsSpaceAfter}
 use Rattle.log_merge.specs.Legal.{AreLegal}

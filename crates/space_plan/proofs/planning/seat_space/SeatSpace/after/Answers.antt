@@ -1,4 +1,4 @@
-use Rattle.std.proofs.Common.{◌+◌, sym, ap, ◌∙◌}
+use Rattle.std.proofs.Common.{sym, ◌∙◌}
 use Rattle.std.proofs.lemmas.Bool.{cond-true, cond-false}
 use Rattle.space_plan.proofs.plan_lemmas.SeatSpaces.{SeatTells-counted}
 use Rattle.space_plan.proofs.planning.seat_space.SeatSpace.after.Goals as goal
