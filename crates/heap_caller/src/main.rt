@@ -14,7 +14,7 @@ use std::io;
 use std::thread::Threads;
 use working::work_all;
 
-/// How many entries the one history has that the closed table tells of; none where a seat hasn't left.
+/// How many objects were made, as the one history of the closed table tells; none where a seat hasn't left.
 fn run<R: Threads + Sync>(rt: &R, alloc: Global, heap: Heap) -> Result<Option<usize>, Memory>
     requires { IsHeap heap }
 {
