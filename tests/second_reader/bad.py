@@ -134,7 +134,7 @@ def usages() -> list[tuple[list[str], bytes]]:
              "run --patience 1000001", "run --locked --locked", "make 1 1", "make 1 1 1 1", "make 1 17 1",
              "make 2147483648 1 1", "make 2147483647 16 9", "make 0 1 0", "make 1 1 32769", "make 01 1 1",
              "make 5 16 32768", "make 11111111111 1 1", "migrate", "migrate scripts", "migrate script script", "migrate script", "migrate history",
-             "migrate --brief script")
+             "migrate --brief script", "crew --history --history", "crew --brief", "crew --history 1", "crew x", "crews")
     return [(form.split(" ") if form else [], script) for form in forms]
 
 

@@ -105,6 +105,19 @@ def run_script(random: Random, runs: Runs) -> Case:
     return Case("run of a script", ["run"], changed_script(random, text) if random.random() < 0.7 else text)
 
 
+def draw_crew(random: Random) -> bytes:
+    """A crew's text: a drawn script's commands, but collects, as those of some jobs."""
+    script = draw_script(random, 60, False)
+    most = random.choice((0, 3, 4_095))
+    lines = [command._replace(party=random.randint(0, most)).line() for command in script.commands if command.name != "collect"]
+    return text_of(["crew 1", script.heap.line(2), *lines])
+
+
+def crew_history(random: Random, runs: Runs) -> Case:
+    text = draw_crew(random)
+    return Case("history of a crew", ["crew", "--history"], changed_script(random, text) if random.random() < 0.6 else text)
+
+
 def play_check(random: Random, runs: Runs) -> Case:
     return Case("check of a play", ["check"], draw_history(random))
 
@@ -170,6 +183,7 @@ KINDS: dict[str, tuple[int, Callable[[Random, Runs], Case]]] = {
     "drawn": (18, drawn_play),
     "drawn-changed": (14, changed_drawn),
     "run": (3, run_script),
+    "crew": (4, crew_history),
     "play-check": (5, play_check),
     "play-changed": (24, changed_check),
     "run-check": (3, run_check),

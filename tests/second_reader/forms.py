@@ -1,12 +1,14 @@
 """The words after the program's name, and what the program answers to them and its input."""
 
+from collections.abc import Callable
+
 from .history import migrated as migrated_history
 from .history import read_history
 from .judge import check
 from .made import MOST_MADE, MOST_START, make
 from .plan import plan
 from .play import answer_play
-from .script import MOST_SEATS, SCRIPT_DIGITS, read_script
+from .script import MOST_SEATS, SCRIPT_DIGITS, Script, read_crew, read_script
 from .script import migrated as migrated_script
 from .texts import (LONGEST_SCRIPT, MOST_MIGRATED_HISTORY, MOST_MIGRATED_SCRIPT, Answer, Refused, done, number_of,
                     refused, text_of, too_long, usage)
@@ -58,18 +60,19 @@ def answer_migrate(words: list[str], text: bytes) -> Answer:
         return refused(fault)
 
 
-def answer_run(text: bytes) -> Answer | None:
+def answer_threads(text: bytes, read: Callable[[bytes], Script]) -> Answer | None:
+    """What is answered to a text whose seats work on threads, where it can't be read."""
     if len(text) > LONGEST_SCRIPT:
         return too_long()
     try:
-        read_script(text, False)
+        read(text)
     except Refused as fault:
         return refused(fault)
     return None
 
 
 def answer_words(words: list[str], text: bytes) -> Answer | None:
-    """What the program answers; None where it is a run on threads, whose history isn't determined."""
+    """What the program answers; None where it is a run or a crew on threads, whose history isn't determined."""
     form, rest = (words[0], words[1:]) if words else ("", [])
     if form == "check" and not rest:
         return check(text)
@@ -84,5 +87,8 @@ def answer_words(words: list[str], text: bytes) -> Answer | None:
         return usage() if options is None else answer_play(text, options.get("--pace"), "--brief" in options, "--press" in options)
     if form == "run":
         options = options_of(rest, ("--locked", "--patience", "--pace"))
-        return usage() if options is None else answer_run(text)
+        return usage() if options is None else answer_threads(text, lambda script: read_script(script, False))
+    if form == "crew":
+        options = options_of(rest, ("--history",))
+        return usage() if options is None else answer_threads(text, read_crew)
     return usage()

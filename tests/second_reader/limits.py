@@ -81,7 +81,19 @@ def limit_cases() -> list[tuple[list[str], bytes]]:
     cases += [(["play"], f"schism 1\nheap 1 0 1\n{line}\n") for line in TWO_FAULTS]
     cases += [(["check"], f"history 1 play\nheap 1 0 1\n{line}\n") for line in BAD_ENTRIES]
     cases += [(["check"], f"history 1 run\nheap 1 0 1\n{line}\n") for line in ("c turns 1 = done", "c cycle = cycle 0")]
-    return [(words, text.encode()) for words, text in cases + second_version_cases()]
+    return [(words, text.encode()) for words, text in cases + second_version_cases() + crew_cases()]
+
+
+# Lines of a crew's text: the largest number of a job, and what a job has not.
+JOB_LINES = ("4095 poll", "4096 poll", "0 collect", "0 leave", "c cycle", "0 cas 0 0 1 1", "0 cas 0 0 1 16", "00 poll", "0")
+
+
+def crew_cases() -> list[tuple[list[str], str]]:
+    """First lines, heap lines and lines of jobs, right ones and others."""
+    cases = [f"{header}\nheap 1 0 1 32\n" for header in ("crew 1", "crew 2", "crew", "schism 2", "history 2 run")]
+    cases += [f"crew 1\nheap {heap}\n" for heap in BOARD_LIMITS]
+    cases += [f"crew 1\nheap 1 0 1 32\n{line}\n" for line in JOB_LINES + TWO_FAULTS]
+    return [(["crew", "--history"], text) for text in cases]
 
 
 def second_version_cases() -> list[tuple[list[str], str]]:

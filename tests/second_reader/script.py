@@ -1,5 +1,6 @@
 """Scripts: the heap line, the commands, and their reading by the grammar."""
 
+from collections.abc import Callable
 from typing import NamedTuple
 
 from .texts import Refused, lines_of, number_of
@@ -7,6 +8,7 @@ from .texts import Refused, lines_of, number_of
 COLLECTOR = "c"
 
 MOST_LINES = 65_536
+MOST_JOBS = 4_096
 MOST_GROUPS = 4_096
 MOST_SPINE = 16_384
 MOST_SEATS = 16
@@ -113,15 +115,20 @@ def read_party(word: bytes, heap: Heap, played: bool) -> int | str | None:
     return seat if seat is not None and seat < heap.seats else None
 
 
-def read_command(position: int, line: bytes, heap: Heap, played: bool, version: int) -> Command:
-    """Reads the line at this position of a script."""
+def read_job(word: bytes) -> int | None:
+    job = number_of(word, SCRIPT_DIGITS)
+    return job if job is not None and job < MOST_JOBS else None
+
+
+def read_line(position: int, line: bytes, read_front: Callable[[bytes], int | str | None], commands_of: Callable[[int | str], dict]) -> Command:
+    """Reads the line at this position of a text: who it is of, and one of the commands that there are."""
     if position > MOST_LINES:
         raise Refused(position, "TooManyLines")
     words = line.split(b" ")
-    party = read_party(words[0], heap, played)
+    party = read_front(words[0])
     if party is None:
         raise Refused(position, "NoSeat")
-    commands = COLLECTOR_COMMANDS if party == COLLECTOR else seat_commands(version)
+    commands = commands_of(party)
     name = words[1].decode("latin-1") if len(words) > 1 else ""
     if name not in commands:
         raise Refused(position, "NoCommand")
@@ -138,6 +145,12 @@ def read_command(position: int, line: bytes, heap: Heap, played: bool, version: 
     return Command(party, name, tuple(operands))
 
 
+def read_command(position: int, line: bytes, heap: Heap, played: bool, version: int) -> Command:
+    """Reads the line at this position of a script."""
+    return read_line(position, line, lambda word: read_party(word, heap, played),
+                     lambda party: COLLECTOR_COMMANDS if party == COLLECTOR else seat_commands(version))
+
+
 def read_script(text: bytes, played: bool) -> Script:
     """Reads a script; one that is to be played may have lines for the collector."""
     lines = lines_of(text)
@@ -149,3 +162,11 @@ def read_script(text: bytes, played: bool) -> Script:
 def migrated(script: Script) -> Script:
     """The same script in version 2."""
     return script._replace(version=VERSIONS[-1])
+
+
+def read_crew(text: bytes) -> Script:
+    """Reads a crew's text; in its lines the numbers of jobs stand where a script has seats."""
+    lines = lines_of(text)
+    version, heap = read_header(lines, {b"crew 1": VERSIONS[-1]})
+    commands = {name: operands for name, operands in seat_commands(version).items() if name != "collect"}
+    return Script(heap, [read_line(position, line, read_job, lambda job: commands) for position, line in enumerate(lines[2:], 3)], version)

@@ -13,7 +13,8 @@ use crate::seat_work::on_seat;
 use heap_model::{Command, Reply};
 use std::alloc::Global;
 
-/// Calls the seat behind the handle by the command.
+/// Calls the seat behind the handle by the command. It stands within each export, which so knows its own command.
+#[inline(always)]
 fn call(alloc: Global, seat: &mut Handle, command: Command) -> Result<Reply, Refusal>
     ensures { OnSeat (Calls command) seat.old.pointer.party seat.new.pointer.party result }
 {

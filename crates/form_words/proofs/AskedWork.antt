@@ -1,5 +1,5 @@
 -- Words ask for one work alone: they are decoded, form by form.
-use Rattle.std.proofs.Common.{◌≡◌, ℕ, Bool, List, [], ◌∷◌, Option, Some, None, bytes_eq, decimal, unwrap_or, refl, ap, ◌∙◌, arith}
+use Rattle.std.proofs.Common.{◌≡◌, ℕ, Bool, true, false, List, [], ◌∷◌, length, nat_lt, Option, Some, None, bytes_eq, decimal, unwrap_or, refl, ap, ◌∙◌, arith}
 use Rattle.std.specs.Prelude.{codes, slice_index_or, IfSome}
 use Rattle.std.specs.Map.{lookup}
 use Rattle.std.specs.Str.Parse.{digits_value}
@@ -10,7 +10,7 @@ use Rattle.form_words.specs.declared.pace.PaceName.{PaceName}
 use Rattle.form_words.specs.declared.pace.PaceName.TheVariants.{Steady}
 use Rattle.form_words.specs.declared.setting.Settings.{Settings}
 use Rattle.form_words.specs.declared.work.Work.{Work}
-use Rattle.form_words.specs.declared.work.Work.TheVariants.{Play, Run, Check, Plan, Make, Migrate}
+use Rattle.form_words.specs.declared.work.Work.TheVariants.{Play, Run, Check, Plan, Make, Migrate, Crew}
 use Rattle.form_words.specs.Settings.{most_patience}
 use Rattle.form_words.specs.Works.{form_word, usual_patience, AskFor, Completes, IsRunSettings, IsWork}
 use Rattle.form_words.proofs.GivenSettings.{digits_value-decimal, given_patience_in_range, settings_of, settings_of-given}
@@ -35,6 +35,10 @@ kinds = (codes "script", Script) ∷ (codes "history", History) ∷ []
 abbrev migrate_by : List (List ℕ) → Work
 migrate_by words = Migrate (unwrap_or (lookup (bytes_eq (slice_index_or words 0 [])) kinds) Script)
 
+-- the run of a crew, whose history is told where a word asks for it
+abbrev crew_by : List (List ℕ) → Work
+crew_by words = Crew (nat_lt 0 (length words))
+
 -- the work of each form, by its word, that the words behind it ask for if they ask for any
 abbrev works_by_form : List (List ℕ) → List (List ℕ × Work)
 works_by_form rest =
@@ -44,6 +48,7 @@ works_by_form rest =
     ∷ (codes "plan", Plan)
     ∷ (codes "make", make_by rest)
     ∷ (codes "migrate", migrate_by rest)
+    ∷ (codes "crew", crew_by rest)
     ∷ []
 
 -- the work that words ask for if they ask for any
@@ -71,6 +76,8 @@ work_of-asked words work asked = ap work_of asked.begins ∙ by asked.rest work 
   by rest Plan none = refl
   by rest (Migrate Script) spelled = ap (λ (words : List (List ℕ)). Some (migrate_by words)) spelled
   by rest (Migrate History) spelled = ap (λ (words : List (List ℕ)). Some (migrate_by words)) spelled
+  by rest (Crew false) spelled = ap (λ (words : List (List ℕ)). Some (crew_by words)) spelled
+  by rest (Crew true) spelled = ap (λ (words : List (List ℕ)). Some (crew_by words)) spelled
   by rest (Make start seats lines) (fits, spelled) =
       ap (λ (words : List (List ℕ)). Some (make_by words)) spelled ∙ ap Some (make_by-words start seats lines (fits, refl))
 
@@ -87,6 +94,7 @@ completed_work_is_in_range rest (Play pace brief press) gives = tt
 completed_work_is_in_range rest Check none = tt
 completed_work_is_in_range rest Plan none = tt
 completed_work_is_in_range rest (Migrate kind) spelled = tt
+completed_work_is_in_range rest (Crew history) spelled = tt
 completed_work_is_in_range rest (Make start seats lines) made = made.0
 completed_work_is_in_range rest (Run pace locked patience) (settings, gives, is) = by settings.patience is.patience_is (given_patience_in_range rest settings gives) where
   by : (given : Option ℕ) → patience ≡ unwrap_or given usual_patience → IfSome given (IsWithin 1 most_patience) → IsWithin 1 most_patience patience

@@ -4,7 +4,7 @@ use Rattle.std.specs.Prelude.{codes, IfNone, IfSome}
 use Rattle.form_words.specs.declared.kind.TextKind.{TextKind}
 use Rattle.form_words.specs.declared.pace.PaceName.{PaceName}
 use Rattle.form_words.specs.declared.work.Work.{Work}
-use Rattle.form_words.specs.declared.work.Work.TheVariants.{Play, Run, Migrate}
+use Rattle.form_words.specs.declared.work.Work.TheVariants.{Play, Run, Migrate, Crew}
 use Rattle.form_words.specs.Works.{form_word, AskFor, Completes, IsForm, IsWork}
 use Rattle.form_words.proofs.AskedWork.{completed_work_is_in_range, work_of, work_of-asked}
 
@@ -32,6 +32,10 @@ none_found_no_run words rest (Some work) begins none = tt
 pub none_found_no_migration : (words rest : List (List ℕ)) (found : Option Work) → words ≡ codes "migrate" ∷ rest → IfNone found ((kind : TextKind) → ¬ Completes rest (Migrate kind)) → IfNone found (¬ IsForm words)
 none_found_no_migration words rest None begins none = no_form (codes "migrate") words rest _ begins refl (none _)
 none_found_no_migration words rest (Some work) begins none = tt
+
+pub none_found_no_crew : (words rest : List (List ℕ)) (found : Option Work) → words ≡ codes "crew" ∷ rest → IfNone found ((history : Bool) → ¬ Completes rest (Crew history)) → IfNone found (¬ IsForm words)
+none_found_no_crew words rest None begins none = no_form (codes "crew") words rest _ begins refl (none _)
+none_found_no_crew words rest (Some work) begins none = tt
 
 -- what was found has its numbers in their ranges
 pub found_work_is_in_range : (form : List ℕ) (rest : List (List ℕ)) (found : Option Work) → IfSome found (λ work. (form_word work ≡ form) × Completes rest work) → IfSome found IsWork

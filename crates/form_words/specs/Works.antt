@@ -1,5 +1,5 @@
 -- Which forms words have, and what they ask for.
-use Rattle.std.specs.Prelude.{◌≡◌, ℕ, ◌≤◌, Bool, false, List, [], ◌∷◌, codes, decimal, unwrap_or}
+use Rattle.std.specs.Prelude.{◌≡◌, ℕ, ◌≤◌, Bool, false, List, [], ◌∷◌, codes, decimal, unwrap_or, if◌then◌else◌}
 use Rattle.heap_model.specs.Command.{IsWithin}
 use Rattle.heap_model.specs.Limits.{most_seats}
 use Rattle.script_text.specs.Made.{most_start, most_made_lines}
@@ -9,7 +9,7 @@ use Rattle.form_words.specs.declared.pace.PaceName.{PaceName}
 use Rattle.form_words.specs.declared.pace.PaceName.TheVariants.{Steady}
 use Rattle.form_words.specs.declared.setting.Settings.{Settings}
 use Rattle.form_words.specs.declared.work.Work.{Work}
-use Rattle.form_words.specs.declared.work.Work.TheVariants.{Play, Run, Check, Plan, Make, Migrate}
+use Rattle.form_words.specs.declared.work.Work.TheVariants.{Play, Run, Check, Plan, Make, Migrate, Crew}
 use Rattle.form_words.specs.Settings.{no_settings, most_patience, GiveSettings}
 
 -- the word with which a form begins
@@ -20,11 +20,16 @@ form_word Check = codes "check"
 form_word Plan = codes "plan"
 form_word (Make start seats lines) = codes "make"
 form_word (Migrate kind) = codes "migrate"
+form_word (Crew history) = codes "crew"
 
 -- the word that names a kind of text
 abbrev pub kind_word : TextKind → List ℕ
 kind_word Script = codes "script"
 kind_word History = codes "history"
+
+-- the option by which a crew's history is told
+abbrev pub history_words : Bool → List (List ℕ)
+history_words history = if history then codes "--history" ∷ [] else []
 
 -- a script may be made from this start, for so many seats and of so many lines
 abbrev pub MayBeMade : ℕ → ℕ → ℕ → Type 0
@@ -56,6 +61,7 @@ Completes rest Check = rest ≡ []
 Completes rest Plan = rest ≡ []
 Completes rest (Make start seats lines) = MayBeMade start seats lines × (rest ≡ decimal start ∷ decimal seats ∷ decimal lines ∷ [])
 Completes rest (Migrate kind) = rest ≡ kind_word kind ∷ []
+Completes rest (Crew history) = rest ≡ history_words history
 
 -- the words after the program's name ask for the work
 pub record AskFor (words : List (List ℕ)) (work : Work) : Type 0 where
@@ -72,7 +78,7 @@ abbrev pub HasInput : Work → Type 0
 HasInput (Make start seats lines) = ⊥
 HasInput work = Unit {0}
 
--- the most bytes of a script
+-- the most bytes of a script, or of a crew's text
 abbrev pub most_script : ℕ
 most_script = 1048576
 
@@ -93,3 +99,4 @@ most_bytes Check = most_history
 most_bytes Plan = most_history
 most_bytes (Make start seats lines) = 0
 most_bytes (Migrate kind) = most_migrated kind
+most_bytes (Crew history) = most_script

@@ -19,7 +19,7 @@ use heap_model::limits::MOST_SEATS;
 use script_text::{MOST_MADE_LINES, MOST_START};
 use std::alloc::Global;
 
-/// The most bytes of a script that is played or run.
+/// The most bytes of a script that is played or run, and of a crew's text.
 pub const MOST_SCRIPT: usize = 1_048_576;
 
 /// The most bytes of a history that is checked, or by which space is planned.
@@ -62,6 +62,10 @@ pub enum Work {
     },
     /// Writes a text of either version as the same in version 2.
     Migrate(TextKind),
+    /// Runs the jobs of a crew's text on its seats, and tells each job's run, or the history of the whole.
+    Crew {
+        history: bool,
+    },
 }
 
 /// The settings that the command finds in the words, where it takes them and each value is one.
@@ -166,6 +170,20 @@ fn migrate_of(words: &[&str]) -> Option<Work>
     alone(Work::Migrate(kind), rest)
 }
 
+/// The run of a crew that the words behind the form's ask for.
+fn crew_of(words: &[&str]) -> Option<Work>
+    ensures some { IfSome result (λ work. (form_word work ≡ codes "crew") × Completes (map (λ w. w.now) words.now) work) }
+    ensures none { IfNone result ((history : ABool) → ¬ Completes (map (λ w. w.now) words.now) (works.Crew history)) }
+{
+    let Some((word, rest)) = words.split_first() else {
+        return Some(Work::Crew { history: false });
+    };
+    if *word != "--history" {
+        return None;
+    }
+    alone(Work::Crew { history: true }, rest)
+}
+
 impl Work {
     /// The work that the words after the program's name ask for: none, where they are no form.
     pub fn of<'a>(alloc: Global, words: &'a [&'a str]) -> Result<Option<Work>, Memory>
@@ -183,6 +201,7 @@ impl Work {
             "plan" => Ok(alone(Work::Plan, rest)),
             "make" => make_of(alloc, rest),
             "migrate" => Ok(migrate_of(rest)),
+            "crew" => Ok(crew_of(rest)),
             _ => Ok(None),
         }
     }
@@ -193,7 +212,7 @@ impl Work {
         ensures none { IfNone result (¬ HasInput self) }
     {
         match self {
-            Work::Play { .. } | Work::Run { .. } => Some(MOST_SCRIPT),
+            Work::Play { .. } | Work::Run { .. } | Work::Crew { .. } => Some(MOST_SCRIPT),
             Work::Check | Work::Plan => Some(MOST_HISTORY),
             Work::Make { .. } => None,
             Work::Migrate(TextKind::Script) => Some(MOST_MIGRATED_SCRIPT),

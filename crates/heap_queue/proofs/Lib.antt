@@ -11,6 +11,12 @@ pub mod Others
 pub mod PutCalls
 pub mod PutMoves
 pub mod QueueLaws
+pub mod QueueTexts
+pub mod ServingLogs
+pub mod ServingParts
+pub mod ServingSteps
+pub mod StageLists
 pub mod TakeMoves
+pub mod TellingSteps
 pub mod Views
 pub mod WholeCalls

@@ -66,7 +66,7 @@ over_there TakeCopies command reply call same = absurd (cc)
 over_there place command reply call same = absurd (cc)
 
 -- a whole call leads from where it begins to where it is over, and is the one call that ends in it
-whole_leads : (place : Place) (log : List Entry) (call : Call) → IsWhole place log call → Leads place log (over call) (call ∷ [])
+pub whole_leads : (place : Place) (log : List Entry) (call : Call) → IsWhole place log call → Leads place log (over call) (call ∷ [])
 whole_leads place [] call whole = absurd whole
 whole_leads place (Said number command reply ∷ log) call (step, rest) = elim rest as (λ _. Leads place (Said number command reply ∷ log) (over call) (call ∷ [])) [
   | inl last ↦ subst (λ (x : List Entry). Leads place (Said number command reply ∷ x) (over call) (call ∷ [])) (sym last.1)
@@ -82,7 +82,7 @@ if_ends-append None calls more = refl
 if_ends-append (Some call) calls more = refl
 
 -- one log behind another
-leads_then : (place : Place) (log more : List Entry) (last : Place) (calls : List Call) → IsQueueLog place log → Leads (place_after place log) more last calls → Leads place (log ++ more) last (calls_in place log ++ calls)
+pub leads_then : (place : Place) (log more : List Entry) (last : Place) (calls : List Call) → IsQueueLog place log → Leads (place_after place log) more last calls → Leads place (log ++ more) last (calls_in place log ++ calls)
 leads_then place [] more last calls due then_ = then_
 leads_then place (Said number command reply ∷ log) more last calls due then_ =
     let leads = leads_then (after place command reply) log more last calls due.1 then_ in record {

@@ -4,3 +4,8 @@ pub mod Grows
 pub mod Histories
 pub mod Laws
 pub mod Places
+pub mod QueueText
+pub mod Serving
+pub mod Stages
+pub mod TellerState
+pub mod Telling

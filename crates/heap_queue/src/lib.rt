@@ -1,14 +1,31 @@
 //! A queue of Michael and Scott over the heap: its making, puts and takes by any seat, and what is true of every history of them.
 #![tactic(auto)]
 
+mod finding;
 mod laws;
 mod making;
 mod putting;
+mod queue_command;
+mod queue_grammar;
+mod queue_line;
+mod queue_script;
 mod replies;
+mod serving;
+mod stage;
+mod stages;
 mod taking;
+mod teller;
+mod telling;
+mod told;
 
 pub use laws::{law_orders, law_queue};
 pub use making::make_queue;
 pub use putting::put;
+pub use queue_command::QueueCommand;
+pub use queue_line::QueueLine;
+pub use queue_script::{QueueScript, read_queue};
 pub use replies::{PutReply, TakeReply};
+pub use serving::serve_script;
 pub use taking::take;
+pub use teller::tell_calls;
+pub use told::{Told, ToldCall};

@@ -10,7 +10,6 @@ pub mod Collecting
 pub mod Finished
 pub mod Folding
 pub mod CommandsOn
-pub mod Growing
 pub mod LastCycle
 pub mod Leaves
 pub mod Lines

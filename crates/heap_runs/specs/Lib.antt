@@ -1,6 +1,5 @@
 pub mod PlayHeap
 pub mod Turning
-pub mod Growing
 pub mod MachineHeap
 pub mod Play
 pub mod Pressed

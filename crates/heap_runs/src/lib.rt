@@ -15,6 +15,7 @@ mod workers;
 
 pub use finishing::finish;
 pub use machine_heap::MachineHeap;
+pub use play_collector::make_slack;
 pub use play_heap::PlayHeap;
 pub use playing::{play, play_pressed};
 pub use role::{Held, HeldName};
@@ -22,6 +23,3 @@ pub use running_seats::{Ran, run_seats, seats_of};
 pub use seat_collect::collect_call;
 pub use seat_work::make_command;
 pub use turning::turn_line;
-
-#[cfg(test)]
-mod tests;

@@ -19,8 +19,8 @@ use Rattle.core_machine.specs.seat.Seat.{Seat}
 use Rattle.core_machine.specs.table.Layout.{table_length}
 use Rattle.core_rule.proofs.entries.AtRest.{seat_fits}
 use Rattle.core_rule.proofs.entries.SeatLists.{idle_list_is_all_told}
-use Rattle.heap_table.specs.Closed.{IsWhole, EndsWhole, logs_in, logs_known, HasOneHistory, AreLastWords}
-use Rattle.heap_table.specs.CollectorHeld.{KeepsToken, seats_in}
+use Rattle.heap_table.specs.Closed.{IsWhole, EndsWhole, logs_in, logs_known, HasOneHistory, AreWordsOf, AreLastWords}
+use Rattle.heap_table.specs.CollectorHeld.{CollectorHeld, KeepsToken, seats_in}
 use Rattle.heap_table.specs.Folded.{AllFolded, SeatsBefore}
 use Rattle.heap_table.specs.Handing.{with_closed}
 use Rattle.heap_table.specs.Holds.{Holds}
@@ -120,26 +120,32 @@ closed_logs_are_known seat_slots known collector before moved all log seats its 
     ∙ ap (λ (l : List (List Entry)). l ++ log ∷ []) (moved_are ∙ ap (λ (l : List (List Entry)). l ++ logs_in seat_slots) none_ ∙ logs_in_slots seat_slots ∙ ap (map (λ slot. option_map_or (λ (seat : Seat). seat.mine) slot [])) seats)
     ∙ ap (λ (l : List Entry). map (λ slot. option_map_or (λ (seat : Seat). seat.mine) slot []) known.seats ++ l ∷ []) (its_log ∙ ap (λ (c : Collector). c.log) (sym its))
 
+-- so the words read are those of what was known
+pub read_words_are_known : (heap : Heap) (known read : CollectorKnown) (words : List ℕ) → read ≡ record known { closed = words } → EndsWhole heap read → length words ≡ table_length heap → AreWordsOf heap known words
+read_words_are_known heap known read words read_is ends long = subst (IsWhole heap) read_is (ends (ap (λ (k : CollectorKnown). length k.closed) read_is ∙ long))
+
+-- which a holder shows that holds the same
+pub shown_words_are_known : (held shown : CollectorHeld) (words : List ℕ) → held ≡ shown → AreWordsOf held.heap held.known words → AreWordsOf shown.heap shown.known words
+shown_words_are_known held shown words same = subst (λ (v : CollectorHeld). AreWordsOf v.heap v.known words) same
+
 -- and one history has them
 pub closed_has_one_history : (heap : Heap) (known read : CollectorKnown) (seat_slots : List (Option SeatWithRoom)) (words : List ℕ) (logs : List (List Entry)) (folded : ℕ) → read ≡ record known { closed = words } → seats_in seat_slots ≡ known.seats → length seat_slots ≡ heap.seats
     → EndsWhole heap read → length words ≡ table_length heap → logs ≡ logs_known known → known.folded ≡ folded → HasOneHistory (record { heap = heap; words = words; logs = logs; folded = folded })
 closed_has_one_history heap known read seat_slots words logs folded read_is seats seat_slots_are ends long logs_are folded_is =
-    let whole : IsWhole heap (record known { closed = words }) = subst (IsWhole heap) read_is (ends (ap (λ (k : CollectorKnown). length k.closed) read_is ∙ long)) in
+    let whole = read_words_are_known heap known read words read_is ends long in
     let one = one_history heap (record known { closed = words }) (ap length (sym seats) ∙ length-map seat_slots (λ slot. option_map (λ (party : SeatWithRoom). party.seat) slot) ∙ seat_slots_are) whole in
     subst (λ (n : ℕ). HasOneHistory (record { heap = heap; words = words; logs = logs; folded = n })) folded_is
     (subst (λ (l : List (List Entry)). HasOneHistory (record { heap = heap; words = words; logs = l; folded = known.folded })) (sym logs_are) one)
 
--- of a table that is closed without logs, these are the words
-pub read_words_are_last : (heap : Heap) (known read : CollectorKnown) (words : List ℕ) (folded : ℕ) → read ≡ record known { closed = words } → EndsWhole heap read → length words ≡ table_length heap → known.folded ≡ folded
+-- of a table that is closed without logs, they are the last words
+pub read_words_are_last : (heap : Heap) (known : CollectorKnown) (words : List ℕ) (folded : ℕ) → AreWordsOf heap known words → length words ≡ table_length heap → known.folded ≡ folded
     → AreLastWords (record { heap = heap; words = words; folded = folded })
-read_words_are_last heap known read words folded read_is ends long folded_is =
-    let whole : IsWhole heap (record known { closed = words }) = subst (IsWhole heap) read_is (ends (ap (λ (k : CollectorKnown). length k.closed) read_is ∙ long)) in
-    record {
-      each = long;
-      state = whole.state;
-      book = whole.book;
-      stands = whole.stands;
-      words_are = whole.words_are;
-      gone = whole.gone;
-      seats_before = subst (λ (n : ℕ). SeatsBefore n whole.book.history) folded_is whole.late;
-    }
+read_words_are_last heap known words folded whole long folded_is = record {
+  each = long;
+  state = whole.state;
+  book = whole.book;
+  stands = whole.stands;
+  words_are = whole.words_are;
+  gone = whole.gone;
+  seats_before = subst (λ (n : ℕ). SeatsBefore n whole.book.history) folded_is whole.late;
+}

@@ -28,6 +28,10 @@ pub record IsWhole (heap : Heap) (known : CollectorKnown) : Type 0 where
 abbrev pub EndsWhole : Heap → CollectorKnown → Type 0
 EndsWhole heap known = length known.closed ≡ table_length heap → IsWhole heap known
 
+-- so it is with these words as those that closing read
+abbrev pub AreWordsOf : Heap → CollectorKnown → List ℕ → Type 0
+AreWordsOf heap known words = IsWhole heap (record known { closed = words })
+
 -- what contracts see of a closed table: its heap, its words, the logs by seat and the collector's behind them, and the phase in which the last seat was folded in
 pub record ClosedTable : Type 0 where
   pub heap : Heap

@@ -1,7 +1,7 @@
 ghost use Rattle.std.specs.Prelude.{◌≡◌, ◌+◌, ◌-◌, ◌<◌, ◌≤◌, ◌++◌, [], map, length, vec_len, vec_capacity, IfOk, IfErr};
 ghost use Rattle.heap_model.specs.Heap.{IsHeap};
 ghost use Rattle.core_machine.specs.table.Layout.{table_length};
-ghost use Rattle.heap_table.specs.Closed.{EndsWhole, logs_known, logs_in};
+ghost use Rattle.heap_table.specs.Closed.{EndsWhole, AreWordsOf, logs_known, logs_in};
 ghost use Rattle.heap_table.specs.CollectorHeld.{KeepsToken};
 ghost use Rattle.heap_table.specs.Folded.{AllFolded};
 ghost use Rattle.heap_table.specs.Handing.{with_closed};
@@ -120,6 +120,7 @@ impl<L: Entries, C: CountsEntries> CollectorHolder<L, C> {
         requires empty { words.items ≡ [] }
         requires room { table_length self.heap ≤ vec_capacity words }
         ensures heap { result.heap ≡ self.heap }
+        ensures words { AreWordsOf self.heap self.known result.words }
         ensures folded { result.folded ≡ self.known.folded }
     {
         let count = word_count(&self.heap);
@@ -139,6 +140,7 @@ impl<L: Entries, C: CountsEntries> CollectorHolder<L, C> {
     pub fn close_told(self, alloc: Global) -> Result<ClosedWords, CloseFault<L, C>>
         requires { AllFolded self.heap self.known.seats }
         ensures heap { IfOk result (λ closed. closed.heap ≡ self.heap) }
+        ensures words { IfOk result (λ closed. AreWordsOf self.heap self.known closed.words) }
         ensures folded { IfOk result (λ closed. closed.folded ≡ self.known.folded) }
         ensures fault { IfErr result (λ fault. fault.holder ≡ self) }
     {

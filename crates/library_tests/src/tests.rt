@@ -1,4 +1,4 @@
-//! What the libraries up to log_merge answer to their public calls.
+//! What the libraries up to space_plan answer to their public calls.
 
 mod boards;
 mod call_steps;
@@ -11,6 +11,7 @@ mod interleavings;
 mod machine;
 mod merges;
 mod paces;
+mod plans;
 mod scripts;
 mod streams;
 mod swaps;

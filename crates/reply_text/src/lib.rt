@@ -5,8 +5,6 @@ mod history;
 mod history_line;
 mod migrating;
 mod read;
-#[cfg(test)]
-mod tests;
 mod write;
 
 pub use history::{History, SpaceMark};

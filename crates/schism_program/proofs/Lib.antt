@@ -4,4 +4,6 @@ pub mod SeatScripts
 pub mod RunHistories
 pub mod RunTexts
 pub mod Inputs
+pub mod MergedLogs
+pub mod CrewRuns
 pub mod TableRuns

@@ -30,6 +30,7 @@ use Rattle.heap_model.specs.account.Space.{fragments_gained, fragments_lost}
 use Rattle.heap_runs.specs.Finishing.{HasLogs, EndsUnused}
 use Rattle.heap_runs.specs.SeatWork.{HasWorked, HaveWorked, script_at}
 use Rattle.schism_program.specs.Running.{seat_commands, merged_history, IsRunOf, IsOfTable}
+use Rattle.schism_program.proofs.MergedLogs.{merged_is_legal, other_is_legal, same_logs}
 
 -- an entry that is another's tells none of the seat's commands
 none_told : (number : ℕ) (entry : Entry) → is_of number entry ≡ false → command_told number entry ≡ []
@@ -102,10 +103,10 @@ module _ (patience : ℕ) (scripts : List (List Command)) (script : Script) (clo
   one = unused.one
 
   same : logs_of script.heap merged ≡ logs_of script.heap one.history
-  same = sym kept ∙ one.logs_are ∙ ap (λ (h : Heap). logs_of h one.history) heap_is
+  same = same_logs (preamble_of script) closed merged heap_is legal kept unused
 
   legal_too : IsObjectLegal script.heap one.history
-  legal_too = subst (λ (h : Heap). IsObjectLegal h one.history) heap_is one.legal.objects
+  legal_too = other_is_legal (preamble_of script) closed merged heap_is legal kept unused
 
   -- each seat has told its script and left
   pub commands_are : (number : ℕ) → number < script.heap.seats → commands_told number merged ≡ script_at scripts number ++ Leave ∷ []
@@ -122,11 +123,7 @@ module _ (patience : ℕ) (scripts : List (List Command)) (script : Script) (clo
         form = refl;
         heap = refl;
         unmarked = refl;
-        legal = record {
-          entries = legal;
-          mark = tt;
-          end_used = omega (arith, totals (λ e. e.taken), totals (λ e. e.given), totals (λ e. e.freed), subst (λ (h : Heap). fragments_gained h one.history ≡ fragments_lost one.history) heap_is unused.none_used);
-        };
+        legal = merged_is_legal (preamble_of script) closed merged heap_is legal kept unused;
         whole = (
           one.history,
           keep_each_others_logs script.heap merged one.history legal legal_too same,

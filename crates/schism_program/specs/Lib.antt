@@ -4,6 +4,7 @@ pub mod Running
 pub mod Verdict
 pub mod Planning
 pub mod Migrating
+pub mod Crewing
 pub mod WorkFaults
 pub mod Works
 pub mod Outcome

@@ -11,6 +11,7 @@ ghost use Rattle.reply_text.specs.Written.{HasText};
 ghost use Rattle.schism_program.specs.Serving.{told_lines, FailsAsScript, IsPlayBy, Plays};
 ghost use Rattle.schism_program.specs.Works.{FailsAt, IsIllegalAt, LeavesTable, MakesText};
 
+use crate::crewing::run_crew_text;
 use crate::fault::WorkFault;
 use crate::made::Made;
 use crate::making::made_script_text;
@@ -191,5 +192,6 @@ pub fn made_work<G: Gate, R: Threads + Wait + Sync>(
             let text = migrated_text(alloc, kind, input)?;
             Ok(text_alone(text))
         }
+        Work::Crew { history } => run_crew_text(rt, alloc, &input, history, paces.steady, gate),
     }
 }

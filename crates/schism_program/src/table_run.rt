@@ -29,7 +29,7 @@ pub struct TableRun {
 }
 
 /// The history that tells a run of these entries, at whose end nothing is in use, of a script that begins so.
-fn history_of(front: Preamble, entries: Vec<Entry>) -> History
+pub fn history_of(front: Preamble, entries: Vec<Entry>) -> History
     ensures { result ≡ merged_history front entries.items }
 {
     History {
@@ -44,13 +44,13 @@ fn history_of(front: Preamble, entries: Vec<Entry>) -> History
 
 /// The history that tells a run on a shared table, and the table as it was closed.
 #[derive(Drop)]
-struct ToldRun {
-    history: History,
-    closed: Closed,
+pub struct ToldRun {
+    pub history: History,
+    pub closed: Closed,
 }
 
 /// Runs the script on a shared table, each seat on a thread of its own and with no lock round a word of the heap.
-fn told_run<G: Gate, R: Threads + Wait + Sync>(
+pub fn told_run<G: Gate, R: Threads + Wait + Sync>(
     rt: &R,
     alloc: Global,
     script: &Script,

@@ -5,6 +5,7 @@ mod boards;
 mod collects;
 mod comparing;
 mod copies;
+mod crews;
 mod cuts;
 mod cycles;
 mod forms;

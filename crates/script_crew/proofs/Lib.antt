@@ -8,3 +8,8 @@ pub mod Calls
 pub mod WholeCrew
 pub mod LeftSeats
 pub mod OpenedCrew
+pub mod CrewTexts
+pub mod PartedLines
+pub mod ToldJobs
+pub mod JobsTold
+pub mod TellingLines

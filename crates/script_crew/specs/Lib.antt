@@ -5,3 +5,6 @@ pub mod Positions
 pub mod Runs
 pub mod Tasks
 pub mod Working
+pub mod CrewText
+pub mod Parting
+pub mod Telling

@@ -2,17 +2,24 @@
 #![tactic(auto)]
 
 mod crew;
+mod crew_grammar;
+mod crew_script;
 mod filling;
 mod gathering;
 mod job;
+mod job_line;
 mod job_run;
 mod leaving;
+mod parting;
 mod position_rule;
 mod shift;
 mod site;
-#[cfg(test)]
-mod tests;
+mod telling;
 mod worker;
 
 pub use crew::{CrewRan, run_crew};
+pub use crew_script::{CrewScript, read_crew};
 pub use job::{Job, JobRun};
+pub use job_line::JobLine;
+pub use parting::jobs_of;
+pub use telling::render_crew;

@@ -21,7 +21,7 @@ use Rattle.script_text.specs.HeapLine.{heap_named, heap_of}
 use Rattle.script_text.specs.LineFaults.{command_fault, seat_command_fault, words_fault}
 use Rattle.script_text.specs.Grammar.{IsScripted, IsTurnCommand, IsLine}
 use Rattle.script_text.specs.Numbers.{number_of}
-use Rattle.script_text.specs.Operands.{target_range, register_range, index_range, after_operand, commands, turn_commands}
+use Rattle.script_text.specs.Operands.{target_range, register_range, index_range, after_operand, turn_commands}
 use Rattle.script_text.specs.Preamble.{IsPreamble, IsVersion}
 use Rattle.script_text.specs.Words.{command_words, turn_words, line_words, heap_words}
 use Rattle.script_text.proofs.Numbers.{number_below-decimal, number_below-None}

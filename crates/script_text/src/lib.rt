@@ -20,8 +20,6 @@ mod reading;
 mod script;
 mod script_grammar;
 mod sequence;
-#[cfg(test)]
-mod tests;
 mod text;
 mod turn;
 mod writing;

@@ -4,8 +4,6 @@
 mod law;
 mod planning;
 mod report;
-#[cfg(test)]
-mod tests;
 mod text;
 
 pub use law::law_cycle_turns;

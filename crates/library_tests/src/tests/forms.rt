@@ -7,7 +7,7 @@ use std::alloc::Global;
 use std::test::Fail;
 
 /// Words that are no form, each with one space between two.
-const NO_FORMS: [&str; 61] = [
+const NO_FORMS: [&str; 65] = [
     "plays",
     "Check",
     "play extra",
@@ -69,6 +69,10 @@ const NO_FORMS: [&str; 61] = [
     "migrate script --brief",
     "migrate -- script",
     "script migrate",
+    "crews",
+    "crew history",
+    "crew --history --history",
+    "crew --history 0",
 ];
 
 /// Words with a space in one of them, which are no form either.
@@ -178,6 +182,11 @@ fn asks_for_the_work_of_a_form(rt: HostRuntime) -> Result<(), Fail> {
     for (line, work) in [("check", Work::Check), ("plan", Work::Plan)] {
         same(&rt, &asked(alloc, line), &Ok(Some(work)), &line);
         same(&rt, &work.most_bytes(), &Some(16_777_216), &line);
+    }
+    for (line, history) in [("crew", false), ("crew --history", true)] {
+        let work = Work::Crew { history };
+        same(&rt, &asked(alloc, line), &Ok(Some(work)), &line);
+        same(&rt, &work.most_bytes(), &Some(1_048_576), &line);
     }
     for (line, kind, most) in MIGRATIONS {
         let work = Work::Migrate(kind);

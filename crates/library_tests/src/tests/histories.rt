@@ -7,6 +7,7 @@ use std::alloc::Global;
 mod cuts;
 mod faults;
 mod lines;
+mod migrated;
 mod wholes;
 
 const RESERVE: &[u8] = b"history 1 play\nheap 1 0 1\n\

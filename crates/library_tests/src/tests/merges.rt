@@ -75,24 +75,26 @@ fn merged(alloc: Global, heap: Heap, entries: &[Entry]) -> Result<Vec<Entry>, Fa
     Ok(merge(alloc, logs.as_slice(), heap)?)
 }
 
-// Each is a run's entries in some order, and in that of the merge: a seat goes on until it has to wait; a get that
-// finds another's set waits for it; a set waits for the gets of the stamp that it replaces; the collector comes last.
+// Runs' entries in some order, and in that of the merge: a seat goes on until it has to wait; a get that finds another's
+// set waits for it; a set waits for the gets of the stamp that it replaces; the collector comes last.
+const MERGED: [(&str, &str); 3] = [
+    (
+        "history 1 run\nheap 1 0 2\n1 num 1 6 = ok\n0 num 1 5 = ok\n0 set 0 3 1 = was -\n1 set 0 3 1 = was 0:1\n1 get 2 0 3 = number 6 at 1:1\n0 get 2 0 3 = number 6 at 1:1\nend used 11\n",
+        "history 1 run\nheap 1 0 2\n0 num 1 5 = ok\n0 set 0 3 1 = was -\n1 num 1 6 = ok\n1 set 0 3 1 = was 0:1\n0 get 2 0 3 = number 6 at 1:1\n1 get 2 0 3 = number 6 at 1:1\nend used 11\n",
+    ),
+    (
+        "history 1 run\nheap 1 0 2\n1 num 1 7 = ok\n1 get 2 0 3 = nil at -\n1 nil 2 = ok\n0 num 1 5 = ok\n0 set 0 3 1 = was -\nend used 11\n",
+        "history 1 run\nheap 1 0 2\n0 num 1 5 = ok\n1 num 1 7 = ok\n1 get 2 0 3 = nil at -\n0 set 0 3 1 = was -\n1 nil 2 = ok\nend used 11\n",
+    ),
+    (
+        "history 1 run\nheap 1 0 1\nc phase 1\n0 num 1 5 = ok\n0 answers 1\n0 leave = ok\nend used 11\n",
+        "history 1 run\nheap 1 0 1\n0 num 1 5 = ok\n0 answers 1\n0 leave = ok\nc phase 1\nend used 11\n",
+    ),
+];
+
 #[test]
 fn puts_first_what_is_ready(rt: HostRuntime) -> Result<(), Fail> {
-    for (given, wanted) in [
-        (
-            "history 1 run\nheap 1 0 2\n1 num 1 6 = ok\n0 num 1 5 = ok\n0 set 0 3 1 = was -\n1 set 0 3 1 = was 0:1\n1 get 2 0 3 = number 6 at 1:1\n0 get 2 0 3 = number 6 at 1:1\nend used 11\n",
-            "history 1 run\nheap 1 0 2\n0 num 1 5 = ok\n0 set 0 3 1 = was -\n1 num 1 6 = ok\n1 set 0 3 1 = was 0:1\n0 get 2 0 3 = number 6 at 1:1\n1 get 2 0 3 = number 6 at 1:1\nend used 11\n",
-        ),
-        (
-            "history 1 run\nheap 1 0 2\n1 num 1 7 = ok\n1 get 2 0 3 = nil at -\n1 nil 2 = ok\n0 num 1 5 = ok\n0 set 0 3 1 = was -\nend used 11\n",
-            "history 1 run\nheap 1 0 2\n0 num 1 5 = ok\n1 num 1 7 = ok\n1 get 2 0 3 = nil at -\n0 set 0 3 1 = was -\n1 nil 2 = ok\nend used 11\n",
-        ),
-        (
-            "history 1 run\nheap 1 0 1\nc phase 1\n0 num 1 5 = ok\n0 answers 1\n0 leave = ok\nend used 11\n",
-            "history 1 run\nheap 1 0 1\n0 num 1 5 = ok\n0 answers 1\n0 leave = ok\nc phase 1\nend used 11\n",
-        ),
-    ] {
+    for (given, wanted) in MERGED {
         let history = read_history(rt.alloc(), wanted.as_bytes())?;
         let run = read_history(rt.alloc(), given.as_bytes())?;
         let found = merged(rt.alloc(), run.heap, run.entries.as_slice())?;
@@ -109,32 +111,43 @@ fn said(seat: u8, command: Command, reply: Reply) -> Entry {
     }
 }
 
-// No text has a cas. One that swaps waits for those of other logs that found the field before it and left it, and for gets as a set does.
+// The seat's number in its register 1.
+fn number(seat: u8, n: u32) -> Entry {
+    said(seat, Command::Num { d: 1, n }, Reply::Done)
+}
+
+// The second seat finds the field as it opened.
+fn got() -> Entry {
+    let reply = Reply::Got {
+        value: Value::Nil,
+        stamp: 0,
+    };
+    said(1, READ, reply)
+}
+
+// Two orders of the same entries in turn: of a cas that left the field, of the get of it, and of the cas that then swapped it.
+fn swaps() -> [([Entry; 6], [Entry; 6]); 2] {
+    let (first, second) = (number(0, 5), number(1, 6));
+    let left = said(1, swap(1), Reply::Now(0));
+    let swapped = said(0, swap(5), Reply::Was(0));
+    let later = said(1, swap(2), Reply::Now(FIRST));
+    [
+        (
+            [second, left, got(), first, swapped, later],
+            [first, second, left, got(), swapped, later],
+        ),
+        (
+            [second, got(), left, first, swapped, later],
+            [first, second, got(), left, swapped, later],
+        ),
+    ]
+}
+
+// A cas that swaps waits for those of other logs that found the field before it and left it, and for gets as a set does.
 #[test]
 fn puts_a_cas_that_left_the_field_first(rt: HostRuntime) -> Result<(), Fail> {
     let heap = Heap::make(1, 0, 2, 32).ok_or("the limits")?;
-    let number = |seat: u8, n: u32| said(seat, Command::Num { d: 1, n }, Reply::Done);
-    let left = said(1, swap(1), Reply::Now(0));
-    let swapped = said(0, swap(5), Reply::Was(0));
-    let got = said(
-        1,
-        READ,
-        Reply::Got {
-            value: Value::Nil,
-            stamp: 0,
-        },
-    );
-    let later = said(1, swap(2), Reply::Now(FIRST));
-    for (given, wanted) in [
-        (
-            [number(1, 6), left, got, number(0, 5), swapped, later],
-            [number(0, 5), number(1, 6), left, got, swapped, later],
-        ),
-        (
-            [number(1, 6), got, left, number(0, 5), swapped, later],
-            [number(0, 5), number(1, 6), got, left, swapped, later],
-        ),
-    ] {
+    for (given, wanted) in swaps() {
         let found = merged(rt.alloc(), heap, given.as_slice())?;
         same(&rt, &found.as_slice(), &wanted.as_slice(), &"a cas");
     }

@@ -14,6 +14,7 @@ use std::alloc::Global;
 use std::test::Fail;
 
 mod faults;
+mod migrated;
 
 const SCRIPT: &[u8] = b"schism 1\nheap 4 8 2\n\
     0 new 15 47\n1 array 1 4096\n0 get 1 15 4096\n1 set 0 7 15\n0 num 2 1073741823\n0 nil 1\n\

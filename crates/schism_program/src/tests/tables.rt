@@ -11,9 +11,9 @@ use std::sync::Wait;
 use std::test::Fail;
 use std::thread::Threads;
 
-/// Lines of words, one after another, the text that each is given, and whether a table is left: only a run without the lock that is done leaves one, and the next work takes away what
-/// the one before has left.
-const WORKS: [(&str, &str, bool); 10] = [
+/// Lines of words, one after another, the text that each is given, and whether a table is left: only a run without the lock that is done leaves one, and a crew that had a job or whose
+/// history was asked for; the next work takes away what the one before has left.
+const WORKS: [(&str, &str, bool); 13] = [
     ("run", "schism 1\nheap 1 0 1\n0 new 1 2\n", true),
     ("run --locked", "schism 1\nheap 1 0 1\n0 new 1 2\n", false),
     ("run --patience 3", "schism 1\nheap 1 0 2\n1 poll\n", true),
@@ -23,6 +23,9 @@ const WORKS: [(&str, &str, bool); 10] = [
     ("make 1 1 4", "", false),
     ("run", "schism 2\nheap 1 0 1 47\n0 new 1 2\n", true),
     ("migrate script", "schism 1\nheap 1 0 1\n", false),
+    ("crew", "crew 1\nheap 1 0 2 3\n4 poll\n", true),
+    ("crew", "crew 1\nheap 1 0 2 3\n", false),
+    ("crew --history", "crew 1\nheap 1 0 2 3\n", true),
     ("run again", "schism 1\nheap 1 0 1\n", false),
 ];
 

@@ -7,13 +7,15 @@ ghost use Rattle.core_machine.specs.declared.point.Making.TheVariants.{Refusing}
 ghost use Rattle.core_machine.specs.declared.point.Point.TheVariants.{Making};
 
 use super::{has, is_the_first, kept, lone_seat, no_fragments, takes_in_vain, tells};
-use crate::tests::comparing::{holds, same};
+use crate::tests::comparing::same;
 use array_spine::{Budget, SpineFull, bear_array, cell_at, drop_budget, take_budget};
 use core_machine::{Access, AccessStep, Step};
 use frag_claim::{Hand, gather};
 use heap_model::{Command, Entry, Id, Memory};
 use heap_table::Holder;
 use object_chain::Place;
+use std::alloc::Global;
+use std::process::Abort;
 use std::test::Fail;
 
 /// Takes back the words of an array of so many cells, for which fragments were too few.
@@ -96,91 +98,108 @@ fn reach_cell(holder: &mut Holder, cell: u16) -> Result<Option<Place>, Memory> {
     Ok(Some(cell_at(holder, sentinel, cell)))
 }
 
+/// What came of the first array of a seat that is alone.
+#[derive(Drop)]
+struct Tried {
+    holder: Holder,
+    hand: Hand,
+    made: Option<Result<Id, SpineFull>>,
+}
+
+/// The seat of a heap of so many groups and spine words tries to make an array.
+fn attempt(alloc: Global, sizes: (u16, u16), cells: u16, words: u16) -> Result<Tried, Fail>
+    requires words { spine_need_of (Array 1 cells) ≡ words }
+    requires few { words ≤ 1024 }
+{
+    let (groups, spine) = sizes;
+    let mut holder = lone_seat(alloc, groups, spine)?;
+    let mut hand = no_fragments();
+    let made = make_array(&mut holder, &mut hand, cells, words)?;
+    Ok(Tried { holder, hand, made })
+}
+
+/// So many spine words are refused, where so many are in use.
+fn lacks_words(rt: &impl Abort, made: &Option<Result<Id, SpineFull>>, need: u32, used: u32) {
+    let refusal = Some(Err(SpineFull { need, used }));
+    same(rt, made, &refusal, &"the refusal");
+}
+
 /// The array gets the five free fragments of the first group and all four spine words: the next asks for one in vain.
 #[test]
 fn the_second_array_has_no_spine_words(rt: HostRuntime) -> Result<(), Fail> {
-    let mut holder = lone_seat(rt.alloc(), 2, 4)?;
-    let mut hand = no_fragments();
-    let made = make_array(&mut holder, &mut hand, 16, 4)?;
+    let Tried {
+        mut holder,
+        hand,
+        made,
+    } = attempt(rt.alloc(), (2, 4), 16, 4)?;
     is_the_first(&rt, &made);
     has(&rt, &hand, &[11, 12, 13, 14, 15]);
     let again = make_array(&mut holder, &mut no_fragments(), 1, 1)?;
-    same(
-        &rt,
-        &again,
-        &Some(Err(SpineFull { need: 1, used: 4 })),
-        &"the refusal",
-    );
-    tells(
-        &rt,
-        rt.alloc(),
-        &holder,
-        &[
-            "0 takes 5",
-            "0 array 1 16 = 0.0",
-            "0 array 1 1 = spine need 1 used 4",
-        ],
-    )
+    lacks_words(&rt, &again, 1, 4);
+    let lines = [
+        "0 takes 5",
+        "0 array 1 16 = 0.0",
+        "0 array 1 1 = spine need 1 used 4",
+    ];
+    tells(&rt, rt.alloc(), &holder, &lines)
 }
 
 /// A heap without spine words refuses every array.
 #[test]
 fn no_array_without_spine_words(rt: HostRuntime) -> Result<(), Fail> {
-    let mut holder = lone_seat(rt.alloc(), 2, 0)?;
-    let mut hand = no_fragments();
-    let made = make_array(&mut holder, &mut hand, 4, 1)?;
-    same(
-        &rt,
-        &made,
-        &Some(Err(SpineFull { need: 1, used: 0 })),
-        &"the refusal",
-    );
-    holds(&rt, hand.fragments.is_empty(), &"the hand");
-    tells(
-        &rt,
-        rt.alloc(),
-        &holder,
-        &["0 array 1 4 = spine need 1 used 0"],
-    )
+    let Tried { holder, hand, made } = attempt(rt.alloc(), (2, 0), 4, 1)?;
+    lacks_words(&rt, &made, 1, 0);
+    has(&rt, &hand, &[]);
+    let refusal = "0 array 1 4 = spine need 1 used 0";
+    tells(&rt, rt.alloc(), &holder, &[refusal])
 }
 
 /// An array of twenty cells has six fragments, of which five are free: its five spine words are taken back, so that four of the eight are granted afterwards.
 #[test]
 fn an_array_without_fragments_gives_its_words_back(rt: HostRuntime) -> Result<(), Fail> {
-    let mut holder = lone_seat(rt.alloc(), 1, 8)?;
-    let mut hand = no_fragments();
-    let made = make_array(&mut holder, &mut hand, 20, 5)?;
+    let Tried {
+        mut holder,
+        made,
+        ..
+    } = attempt(rt.alloc(), (1, 8), 20, 5)?;
     same(&rt, &made, &None, &"the refusal");
-    takes_in_vain(
-        &rt,
-        rt.alloc(),
-        &holder,
-        "0 array 1 20 = full need 6 found 5",
-    )?;
+    let refusal = "0 array 1 20 = full need 6 found 5";
+    takes_in_vain(&rt, rt.alloc(), &holder, refusal)?;
     let again = make_array(&mut holder, &mut no_fragments(), 16, 4)?;
     is_the_first(&rt, &again);
     Ok(())
 }
 
+/// How often the seat took sixteen fragments.
+fn whole_groups(holder: &Holder) -> usize {
+    let takes = Entry::Takes { seat: 0, count: 16 };
+    holder.log().iter().filter(|entry| **entry == takes).count()
+}
+
 /// The largest array has 1,025 fragments: five of the first group and sixteen of each of 64 more, of which the last gives four to the reserve.
 #[test]
 fn the_largest_array_is_reached(rt: HostRuntime) -> Result<(), Fail> {
-    let mut holder = lone_seat(rt.alloc(), 66, 1024)?;
-    let mut hand = no_fragments();
-    let made = make_array(&mut holder, &mut hand, 4096, 1024)?;
+    let Tried {
+        mut holder,
+        made,
+        ..
+    } = attempt(rt.alloc(), (66, 1024), 4096, 1024)?;
     is_the_first(&rt, &made);
-    same(&rt, &holder.log().len(), &66, &"the entries");
-    let takes = Entry::Takes { seat: 0, count: 16 };
-    let whole = holder.log().iter().filter(|entry| **entry == takes).count();
-    same(&rt, &whole, &64, &"the whole groups");
-    let last = reach_cell(&mut holder, 4095)?;
+    let counts = (holder.log().len(), whole_groups(&holder));
     same(
         &rt,
+        &counts,
+        &(66, 64),
+        &"the entries, and the whole groups",
+    );
+    let last = Some(Place {
+        fragment: 1035,
+        part: 3,
+    });
+    same(
+        &rt,
+        &reach_cell(&mut holder, 4095)?,
         &last,
-        &Some(Place {
-            fragment: 1035,
-            part: 3,
-        }),
         &"the last cell",
     );
     let first = reach_cell(&mut holder, 0)?;

@@ -2,7 +2,7 @@
 
 ghost use Rattle.heap_model.specs.Heap.{IsHeap};
 
-use crate::tests::comparing::{holds, same};
+use crate::tests::comparing::holds;
 use crate::tests::table::{Task, run_two};
 use heap_model::{Account, ApplyFault, Entry, Graph, Heap, Reply};
 use std::alloc::Global;
@@ -52,30 +52,30 @@ fn may_follow(
     Ok(true)
 }
 
+/// Whether the refused one's entries may stand behind those of the other, where one of the two logs tells one refusal.
+fn one_lost(rt: &impl Abort, alloc: Global, heap: Heap, logs: &[Vec<Entry>]) -> Result<bool, Fail>
+    requires { IsHeap heap }
+{
+    let [one, other, _] = logs else {
+        return Err("the logs".into());
+    };
+    let (one, other) = (one.as_slice(), other.as_slice());
+    match (refusals(one), refusals(other)) {
+        (0, 1) => may_follow(rt, alloc, heap, one, other),
+        (1, 0) => may_follow(rt, alloc, heap, other, one),
+        _ => Err("the refusals".into()),
+    }
+}
+
 /// A heap of two groups has five fragments free in the first and sixteen in the second, and each seat asks for sixteen, one beginning at either group. So
 /// whoever claims the second group has its record, and the other is refused.
 #[test]
 fn one_of_two_gets_the_last_group(rt: HostRuntime) -> Result<(), Fail> {
     let heap = Heap::make(2, 0, 2, 32).ok_or("the limits")?;
-    for _ in 0..RACES {
+    for race in 0..RACES {
         let closed = run_two(&rt, rt.alloc(), heap, Task::LongRecord)?.ok_or("a seat hasn't left")?;
-        let logs = closed.logs();
-        let [one, other, _] = logs else {
-            return Err("the logs".into());
-        };
-        let lost = (refusals(one.as_slice()), refusals(other.as_slice()));
-        holds(&rt, lost == (0, 1) || lost == (1, 0), &"the refusals");
-        let legal = if lost == (0, 1) {
-            may_follow(&rt, rt.alloc(), heap, one.as_slice(), other.as_slice())?
-        } else {
-            may_follow(&rt, rt.alloc(), heap, other.as_slice(), one.as_slice())?
-        };
-        same(
-            &rt,
-            &legal,
-            &true,
-            &"the order in which the refused one comes last",
-        );
+        let legal = one_lost(&rt, rt.alloc(), heap, closed.logs())?;
+        holds(&rt, legal, &race);
     }
     Ok(())
 }

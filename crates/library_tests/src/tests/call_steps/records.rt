@@ -1,12 +1,15 @@
 //! A record of many fields is made and its last field is reached, and one is refused.
 
 use super::{has, is_the_first, lone_seat, make_record, no_fragments, takes_in_vain, tells};
-use crate::tests::comparing::{holds, same};
+use crate::tests::comparing::same;
 use core_machine::{Access, AccessStep, Step};
+use frag_claim::Hand;
 use heap_model::{Command, Full, Id, Memory};
 use heap_table::Holder;
 use heap_words::{Meta, array_length, link_in};
 use object_chain::{Place, walk};
+use std::alloc::Global;
+use std::process::Abort;
 use std::test::Fail;
 
 /// Begins a get of a field of the record in register 1, and goes to it; none where there is no such record or field.
@@ -45,42 +48,56 @@ fn reach_field(holder: &mut Holder, field: u16) -> Result<Option<Place>, Memory>
     Ok(Some(walk(holder, head, meta, field)))
 }
 
+/// What came of the record of forty-seven fields that a seat alone tried to make.
+#[derive(Drop)]
+struct Tried {
+    holder: Holder,
+    hand: Hand,
+    made: Option<Result<Id, Full>>,
+}
+
+/// The seat of a heap of so many groups tries to make it.
+fn attempt(alloc: Global, groups: u16) -> Result<Tried, Fail> {
+    let mut holder = lone_seat(alloc, groups, 0)?;
+    let mut hand = no_fragments();
+    let made = make_record(&mut holder, &mut hand, 47, 16)?;
+    Ok(Tried { holder, hand, made })
+}
+
+/// The seat keeps these fragments.
+fn keeps(rt: &impl Abort, holder: &Holder, fragments: &[u16]) {
+    let party = holder.party();
+    same(rt, &party.reserve(), &fragments, &"the reserve");
+}
+
+/// The fragments of the record.
+const GATHERED: [u16; 16] = [
+    11, 12, 13, 14, 15, 16, 17, 18, 19, 20, 21, 22, 23, 24, 25, 26,
+];
+
 /// The board has fragments 0 to 10, so a seat that begins at group 0 gets 11 to 15 there, and the next group's sixteen.
 #[test]
 fn a_long_record_is_made(rt: HostRuntime) -> Result<(), Fail> {
-    let mut holder = lone_seat(rt.alloc(), 4, 0)?;
-    let mut hand = no_fragments();
-    let made = make_record(&mut holder, &mut hand, 47, 16)?;
+    let Tried {
+        mut holder,
+        hand,
+        made,
+    } = attempt(rt.alloc(), 4)?;
     is_the_first(&rt, &made);
-    has(
-        &rt,
-        &hand,
-        &[
-            11, 12, 13, 14, 15, 16, 17, 18, 19, 20, 21, 22, 23, 24, 25, 26,
-        ],
-    );
-    same(
-        &rt,
-        &holder.party().reserve(),
-        &[27, 28, 29, 30, 31].as_slice(),
-        &"the reserve",
-    );
+    has(&rt, &hand, &GATHERED);
+    keeps(&rt, &holder, &[27, 28, 29, 30, 31]);
     same(&rt, &holder.party().cursor(), &1, &"the cursor");
-    tells(
-        &rt,
-        rt.alloc(),
-        &holder,
-        &["0 takes 5", "0 takes 16", "0 new 1 47 = 0.0"],
-    )?;
+    let lines = ["0 takes 5", "0 takes 16", "0 new 1 47 = 0.0"];
+    tells(&rt, rt.alloc(), &holder, &lines)?;
     // Behind the head's two fields each chain fragment has three, so the last is in the fifteenth, which comes behind the head.
-    let last = reach_field(&mut holder, 46)?;
+    let last = Some(Place {
+        fragment: 26,
+        part: 3,
+    });
     same(
         &rt,
+        &reach_field(&mut holder, 46)?,
         &last,
-        &Some(Place {
-            fragment: 26,
-            part: 3,
-        }),
         &"the last field",
     );
     Ok(())
@@ -89,21 +106,11 @@ fn a_long_record_is_made(rt: HostRuntime) -> Result<(), Fail> {
 /// Five fragments of the one group are free, and sixteen are needed.
 #[test]
 fn a_long_record_is_refused(rt: HostRuntime) -> Result<(), Fail> {
-    let mut holder = lone_seat(rt.alloc(), 1, 0)?;
-    let mut hand = no_fragments();
-    let made = make_record(&mut holder, &mut hand, 47, 16)?;
-    same(
-        &rt,
-        &made,
-        &Some(Err(Full { need: 16, found: 5 })),
-        &"the refusal",
-    );
-    holds(&rt, hand.fragments.is_empty(), &"the hand");
-    holds(&rt, holder.party().reserve().is_empty(), &"the reserve");
-    takes_in_vain(
-        &rt,
-        rt.alloc(),
-        &holder,
-        "0 new 1 47 = full need 16 found 5",
-    )
+    let Tried { holder, hand, made } = attempt(rt.alloc(), 1)?;
+    let refusal = Some(Err(Full { need: 16, found: 5 }));
+    same(&rt, &made, &refusal, &"the refusal");
+    has(&rt, &hand, &[]);
+    keeps(&rt, &holder, &[]);
+    let told = "0 new 1 47 = full need 16 found 5";
+    takes_in_vain(&rt, rt.alloc(), &holder, told)
 }

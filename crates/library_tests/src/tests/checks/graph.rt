@@ -2,9 +2,10 @@
 
 use super::entry_of;
 use crate::tests::comparing::{holds, same};
-use heap_model::Command::{self, Array, Collect, Get, Leave, Len, New, Num, Poll, Set};
+use heap_model::Command::{self, Array, Cas, Collect, Get, Leave, Len, New, Num, Poll, Set};
 use heap_model::Reply::{self, Cycle, Done, Got, Made, NoObject, SpineFull, Was, Yes};
 use heap_model::{ApplyFault, Entry, Graph, Heap, Id, Value};
+use std::process::Abort;
 use std::test::Fail;
 
 mod reach;
@@ -23,7 +24,7 @@ const NIL_LATER: Reply = Got {
 
 /// A command out of its range, or a reply that it can't have. No history has such a line. With another reply, or in its
 /// range, each may stand first.
-const UNWRITTEN: [(Command, Reply); 17] = [
+const UNWRITTEN: [(Command, Reply); 22] = [
     (New { d: 1, fields: 2 }, Done),
     (New { d: 0, fields: 2 }, Made(FIRST)),
     (New { d: 16, fields: 2 }, Made(FIRST)),
@@ -54,6 +55,51 @@ const UNWRITTEN: [(Command, Reply); 17] = [
     (Poll, Cycle(1)),
     (Collect, Done),
     (Leave, Yes),
+    (
+        Cas {
+            r: 0,
+            i: 3,
+            a: 5,
+            v: 1,
+        },
+        Done,
+    ),
+    (
+        Cas {
+            r: 1,
+            i: 4097,
+            a: 5,
+            v: 2,
+        },
+        NoObject,
+    ),
+    (
+        Cas {
+            r: 16,
+            i: 0,
+            a: 5,
+            v: 2,
+        },
+        NoObject,
+    ),
+    (
+        Cas {
+            r: 1,
+            i: 0,
+            a: 16,
+            v: 2,
+        },
+        NoObject,
+    ),
+    (
+        Cas {
+            r: 1,
+            i: 0,
+            a: 5,
+            v: 16,
+        },
+        NoObject,
+    ),
 ];
 
 /// An entry, and whether it may stand after those above that may. The heap has two seats.
@@ -137,28 +183,44 @@ fn accepts_no_other_commands_and_replies(rt: HostRuntime) -> Result<(), Fail> {
     Ok(())
 }
 
+/// What a graph answers to an entry with this verdict.
+fn answer_of(verdict: &str) -> Result<(), ApplyFault> {
+    if verdict == "legal" {
+        Ok(())
+    } else {
+        Err(ApplyFault::NotLegal)
+    }
+}
+
+/// The graph of a heap of two seats, which accepts of these entries just those that may stand.
+fn grown(rt: &(impl Abort + AllocGlobal), entries: &[&str]) -> Result<Graph, Fail> {
+    let heap = Heap::make(1, 0, 2, 32).ok_or("the limits")?;
+    let mut graph = Graph::new(rt.alloc(), heap)?;
+    for line in entries {
+        let (entry, verdict) = line.split_once(" => ").ok_or("an entry has a verdict")?;
+        let given = graph.apply(&entry_of(rt.alloc(), entry)?);
+        same(rt, &given, &answer_of(verdict), line);
+    }
+    Ok(graph)
+}
+
+/// Seats and registers, and what these hold behind the entries.
+const HELD: [(u8, u8, Value); 4] = [
+    (0, 0, Value::Nil),
+    (1, 0, Value::Object(Id::Board)),
+    (1, 1, Value::Nil),
+    (1, 2, Value::Object(FIRST)),
+];
+
 #[test]
 fn accepts_what_a_growing_heap_says(rt: HostRuntime) -> Result<(), Fail> {
-    let alloc = rt.alloc();
-    let heap = Heap::make(1, 0, 2, 32).ok_or("the limits")?;
-    let mut graph = Graph::new(alloc, heap)?;
-    for line in ENTRIES {
-        let (line, verdict) = line.split_once(" => ").ok_or("an entry has a verdict")?;
-        let wanted = if verdict == "legal" {
-            Ok(())
-        } else {
-            Err(ApplyFault::NotLegal)
-        };
-        let given = graph.apply(&entry_of(alloc, line)?);
-        same(&rt, &given, &wanted, &line);
-    }
-    holds(&rt, graph.seats() == 2, &"the two seats");
-    for (seat, register, value) in [
-        (0, 0, Value::Nil),
-        (1, 0, Value::Object(Id::Board)),
-        (1, 1, Value::Nil),
-        (1, 2, Value::Object(FIRST)),
-    ] {
+    let graph = grown(&rt, ENTRIES)?;
+    for (seat, register, value) in HELD {
+        holds(
+            &rt,
+            (seat as usize) < graph.seats() && register <= 15,
+            &seat,
+        );
         same(&rt, &graph.value(seat, register), &value, &seat);
     }
     Ok(())

@@ -30,12 +30,15 @@ const BAD_HEAP: &[&str] = &[
     "history 1 run\nheap 1 0 1 32\nend used 0\n",
     "history 2 run\nheap 1 0 1\nend used 0\n",
     "history 2 play\nheap 1 0 1 48\n",
+    "history 2 play\nheap 1 0 1\n",
+    "history 2 run\nheap 1 0 1 48\n",
 ];
 
 const NO_THIRD_LINE: &[&str] = &["history 1 play\nheap 1 0 1\n"];
 
 const NO_FOURTH_LINE: &[&str] = &[
     "history 1 run\nheap 1 0 1\n0 takes 5",
+    "history 2 run\nheap 1 0 1 2\n0 cas 0 1 5 1 = now 0:1\n",
     "history 1 play\nheap 1 0 1\nspace used 1 of 2 spine 3 of 4\n",
 ];
 
@@ -46,6 +49,10 @@ const BAD_THIRD_LINE: &[&str] = &[
     "history 1 run\nheap 1 0 1\nc cycle = cycle 0\nend used 0\n",
     "history 1 run\nheap 1 0 1\n0 cas 0 1 5 1 = was -\nend used 0\n",
     "history 2 run\nheap 1 0 1 5\nc cycle = cycle 0\nend used 0\n",
+    "history 2 run\nheap 1 0 1 2\n0 cas 0 1 5 1 = ok\n",
+    "history 2 run\nheap 1 0 1 2\n0 cas 0 1 5 = was -\n",
+    "history 2 run\nheap 1 0 1 2\n0 cas 0 1 16 1 = was -\n",
+    "history 2 run\nheap 1 0 1 2\n0 set 0 1 5 = now -\n",
 ];
 
 const BAD_FOURTH_LINE: &[&str] = &[

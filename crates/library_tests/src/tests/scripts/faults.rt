@@ -25,6 +25,7 @@ const NO_HEADER: &[&str] = &[
     "",
     "\n",
     "schism 3\nheap 4 8 2\n",
+    "schism 3\nheap 1 0 1 32\n",
     "schism 2 \nheap 4 8 2 5\n",
     "schism 1 \nheap 4 8 2\n",
     "schism 1\r\nheap 4 8 2\r\n",
@@ -54,6 +55,7 @@ const BAD_HEAP: &[&str] = &[
     "schism 2\nheap 4 8 2 48\n",
     "schism 2\nheap 4 8 2 05\n",
     "schism 2\nheap 4 8 2 261\n",
+    "schism 2\nheap 1 0 17 1\n",
 ];
 
 const NO_FAULT: &[&str] = &[
@@ -199,6 +201,7 @@ const SECOND_FAULTS: &[(&str, Cause)] = &[
     ("0 cas 16 1 5 1\n", Cause::OutOfRange),
     ("0 cas 0 4097 5 1\n", Cause::OutOfRange),
     ("0 cas 0 1 16 x\n", Cause::OutOfRange),
+    ("0 cas 0 1 16 1\n", Cause::OutOfRange),
     ("0 cas 0 1 5 16\n", Cause::OutOfRange),
     ("0 cas 0 1 5 1 1\n", Cause::TooManyWords),
     ("0 set 0 1 5 1\n", Cause::TooManyWords),

@@ -1,6 +1,6 @@
 use Rattle.std.proofs.Common.{rules}
 use Rattle.std.proofs.lemmas.Result.{IfOk-weaker}
-use Rattle.form_words.proofs.Forms.{found_work_is_in_range, none_found_no_migration, none_found_no_play, none_found_no_run}
+use Rattle.form_words.proofs.Forms.{found_work_is_in_range, none_found_no_crew, none_found_no_migration, none_found_no_play, none_found_no_run}
 use Rattle.form_words.proofs.work.Work.of.Goals as goal
 
 pub returns-in-play-clause-none : goal.returns-in-play-clause-none
@@ -17,3 +17,9 @@ returns-in-migrate-clause-none c = none_found_no_migration _ _ c.migrate_of.resu
 
 pub returns-in-migrate-clause-range : goal.returns-in-migrate-clause-range
 returns-in-migrate-clause-range c = found_work_is_in_range _ _ c.migrate_of.result c.migrate_of.ensures.some
+
+pub returns-in-crew-clause-none : goal.returns-in-crew-clause-none
+returns-in-crew-clause-none c = none_found_no_crew _ _ c.crew_of.result (search rules) c.crew_of.ensures.none
+
+pub returns-in-crew-clause-range : goal.returns-in-crew-clause-range
+returns-in-crew-clause-range c = found_work_is_in_range _ _ c.crew_of.result c.crew_of.ensures.some

@@ -64,7 +64,7 @@ fn called<L: ShowsLast>(seat: &mut Seat<L>, command: &Command) -> Result<Option<
     Ok(Some(seat.call(command)))
 }
 
-/// Makes the turns, and answers the last of them.
+/// Makes the turns, and keeps what each answers.
 fn turned<L: ShowsLast, C: CountsEntries>(
     collector: &mut CollectorHolder<L, C>,
     turns: &mut Vec<Turn>,
@@ -176,6 +176,37 @@ fn have_ended(turns: &[Turn]) -> bool {
     turns.iter().any(|turn| matches!(turn, Turn::Ended { .. }))
 }
 
+/// Both kinds have answered alike, and among the replies and the turns stands what these scripts are to bring.
+fn answer_alike(
+    rt: &impl Abort,
+    kept: &Parties<Log, Log>,
+    told: &Parties<LastLog, CountedLog>,
+    start: u32,
+) {
+    let (replies, turns) = (told.replies.as_slice(), told.turns.as_slice());
+    same(rt, &replies, &kept.replies.as_slice(), &start);
+    same(rt, &turns, &kept.turns.as_slice(), &start);
+    holds(rt, were_refused(replies), &start);
+    holds(rt, have_ended(turns), &start);
+}
+
+/// Closing leaves the same words, and as many that were folded in.
+fn close_alike(
+    rt: &impl Abort,
+    alloc: Global,
+    kept: Parties<Log, Log>,
+    told: Parties<LastLog, CountedLog>,
+    start: u32,
+) -> Result<(), Fail> {
+    let kept = folded(kept).ok_or("a seat hasn't left")?;
+    let told = folded(told).ok_or("a seat hasn't left")?;
+    let closed = kept.close(alloc).map_err(|_| Memory)?;
+    let bare = told.close_told(alloc).map_err(|_| Memory)?;
+    same(rt, &bare.words(), &closed.words(), &start);
+    same(rt, &bare.folded(), &closed.folded(), &start);
+    Ok(())
+}
+
 /// Plays the lines on a heap of either kind, and compares the replies, the turns, and what closing leaves.
 fn compare(
     rt: &impl Abort,
@@ -188,22 +219,8 @@ fn compare(
 {
     let kept = played::<Log, Log>(alloc, heap, lines)?;
     let told = played::<LastLog, CountedLog>(alloc, heap, lines)?;
-    same(
-        rt,
-        &told.replies.as_slice(),
-        &kept.replies.as_slice(),
-        &start,
-    );
-    same(rt, &told.turns.as_slice(), &kept.turns.as_slice(), &start);
-    holds(rt, were_refused(told.replies.as_slice()), &start);
-    holds(rt, have_ended(told.turns.as_slice()), &start);
-    let collector = folded(kept).ok_or("a seat hasn't left")?;
-    let closed = collector.close(alloc).map_err(|_| Memory)?;
-    let collector = folded(told).ok_or("a seat hasn't left")?;
-    let bare = collector.close_told(alloc).map_err(|_| Memory)?;
-    same(rt, &bare.words(), &closed.words(), &start);
-    same(rt, &bare.folded(), &closed.folded(), &start);
-    Ok(())
+    answer_alike(rt, &kept, &told, start);
+    close_alike(rt, alloc, kept, told, start)
 }
 
 /// The heap of both kinds.

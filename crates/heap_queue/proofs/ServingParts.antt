@@ -1,0 +1,63 @@
+-- The parts of a seat's work behind one another: it finds the queue, serves its script and leaves.
+use Rattle.std.proofs.Common.{◌≡◌, ◌≢◌, ℕ, ◌+◌, ◌<◌, inl, inr, Bool, cond, List, [], ◌∷◌, ◌++◌, length, take, Result, Ok, Err, sym, ap, ◌∙◌, subst, append_assoc, append-nil, arith}
+use Rattle.std.specs.Prelude.{slice_index_or, OnOk}
+use Rattle.std.proofs.lemmas.Bool.Decides.{eqb_tells}
+use Rattle.std.proofs.lemmas.List.{take_more}
+use Rattle.heap_model.specs.declared.entry.Entry.{Entry}
+use Rattle.heap_model.specs.calls.SeatState.{SeatState}
+use Rattle.heap_queue.specs.declared.queue_command.QueueCommand.{QueueCommand}
+use Rattle.heap_queue.specs.Calls.{Call}
+use Rattle.heap_queue.specs.Effects.{start}
+use Rattle.heap_queue.specs.Histories.{Leads}
+use Rattle.heap_queue.specs.Places.{Place, Waits, Rests}
+use Rattle.heap_queue.specs.Serving.{ServesBy, ServesScript, first_calls, begin_place, HasBegun, HasFound, HasLooked, HasCome, GoesOnBy, looked_place}
+use Rattle.heap_queue.proofs.ServingLogs.{leads_on, each_more, has_come}
+use Rattle.heap_queue.proofs.ServingSteps.{goes_both, goes_weaker}
+
+-- a look more
+pub looks_more : {old now new : SeatState} (found is : Bool) → found ≡ is → GoesOnBy 0 (HasLooked Waits) old now → GoesOnBy 0 (HasLooked (looked_place found)) now new → GoesOnBy 0 (HasLooked (looked_place is)) old new
+looks_more {old} {now} {new} found is same one more =
+    goes_both 0 (HasLooked (looked_place is)) (omega arith) (λ log later a b. leads_on Waits Waits (looked_place is) log later [] [] a b) one
+    (subst (λ (b : Bool). GoesOnBy 0 (HasLooked (looked_place b)) now new) same more)
+
+-- a seat that isn't the first waits for the queue
+begins_waiting : (number : ℕ) → number ≢ 0 → begin_place number ≡ Waits
+begins_waiting number other = elim (eqb_tells number 0) as (λ _. begin_place number ≡ Waits) [
+  | inl same ↦ absurd (other same.1)
+  | inr apart ↦ ap (λ (b : Bool). cond b Rests Waits) apart.0
+]
+
+found_behind : (number : ℕ) (log more : List Entry) → number ≢ 0 → HasBegun number log → HasLooked Rests more → HasFound number (log ++ more)
+found_behind number log more other begun looked =
+    subst (λ (x : List Call). Leads (start 0 number) (log ++ more) Rests x) (append-nil (first_calls number))
+    (leads_on (start 0 number) Waits Rests log more (first_calls number) [] (subst (λ (p : Place). Leads (start 0 number) log p (first_calls number)) (begins_waiting number other) begun) looked)
+
+-- by what it finds it has found the queue
+pub finds : {E : Type 0} (old new : SeatState) (number : ℕ) (result : Result (Unit {0}) E) → number ≢ 0 → HasBegun number old.mine → OnOk result (GoesOnBy 0 (HasLooked Rests) old new)
+    → OnOk result (GoesOnBy 0 (λ added. HasFound number (old.mine ++ added)) old new)
+finds {E} old new number (Ok value) other begun went = goes_weaker (λ added. HasFound number (old.mine ++ added)) (λ more looked. found_behind number old.mine more other begun looked) went
+finds {E} old new number (Err error) other begun went = tt
+
+-- one command more
+pub serves_more : {old now new : SeatState} (script : List QueueCommand) (n : ℕ) (command other : QueueCommand) → n < length script → command ≡ slice_index_or script n other → GoesOnBy n (ServesScript old.number (take n script)) old now
+    → ((call : Call) × GoesOnBy 1 (ServesBy now.number command call) now new) → GoesOnBy (n + 1) (ServesScript old.number (take (n + 1) script)) old new
+serves_more {old} {now} {new} script n command other within is one (call, more) =
+    let further : take (n + 1) script ≡ take n script ++ command ∷ [] = take_more script n other within ∙ ap (λ (c : QueueCommand). take n script ++ c ∷ []) (sym is) in
+    subst (λ (s : List QueueCommand). GoesOnBy (n + 1) (ServesScript old.number s) old new) (sym further)
+    (goes_both (n + 1) (ServesScript old.number (take n script ++ command ∷ [])) (omega arith)
+    (λ log later served serves. (served.0 ++ call ∷ [], each_more old.number (take n script) command served.0 call log later served.1 serves)) one
+    (subst (λ (m : ℕ). GoesOnBy 1 (ServesBy m command call) now new) one.number more))
+
+-- a seat that has found the queue and then serves its script
+pub comes : {old found served : SeatState} (number : ℕ) (script : List QueueCommand) → old.number ≡ number → GoesOnBy 0 (λ added. HasFound number (old.mine ++ added)) old found → GoesOnBy (length script) (ServesScript found.number script) found served
+    → GoesOnBy (length script) (λ added. HasCome number script (old.mine ++ added)) old served
+comes {old} {found} {served} number script is one more =
+    goes_both (length script) (λ added. HasCome number script (old.mine ++ added)) (omega arith)
+    (λ opening serving opens serves. subst (HasCome number script) (append_assoc old.mine opening serving)
+    (has_come number script (old.mine ++ opening) serving opens (subst (λ (m : ℕ). ServesScript m script serving) (one.number ∙ is) serves))) one more
+
+-- where it does so
+pub comes_ok : {E : Type 0} (old found served : SeatState) (number : ℕ) (script : List QueueCommand) (result : Result (Unit {0}) E) → old.number ≡ number → GoesOnBy 0 (λ added. HasFound number (old.mine ++ added)) old found
+    → OnOk result (GoesOnBy (length script) (ServesScript found.number script) found served) → OnOk result (GoesOnBy (length script) (λ added. HasCome number script (old.mine ++ added)) old served)
+comes_ok old found served number script (Ok value) is one more = comes number script is one more
+comes_ok old found served number script (Err error) is one more = tt

@@ -1,4 +1,0 @@
-use Rattle.heap_runs.proofs.tests.seat_runs.first_collect.Given as goal
-
-abbrev pub ghosts-collect_named : goal.ghosts-collect_named
-ghosts-collect_named g a = record { table = a.collector.holder.table; heap = a.collector.holder.heap; before = a.collector.holder.known.collector.log }

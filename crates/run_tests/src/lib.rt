@@ -1,0 +1,5 @@
+//! Tests of plays, runs and crews by their public calls, in a crate of their own, so that each library is proved once.
+#![tactic(auto)]
+
+#[cfg(test)]
+mod tests;
