@@ -66,7 +66,7 @@ fn do_task<N: HeldName + Send + Sync, G: Gate, R: Threads + Wait + Sync>(
 }
 
 /// Lets each worker run jobs in a thread of its own, while one more makes the collector's slack turns until all of these have ended, and tells what each came to, in their order. The slack
-/// turns are the last task: where no thread can be had the caller comes to them once the workers have ended.
+/// turns are the first task: where no thread can be had for them the caller comes to them last, once the workers have ended.
 pub fn work_all<N: HeldName + Send + Sync, G: Gate, R: Threads + Wait + Sync>(
     rt: &R,
     held: &Mutex<Held<N>>,
@@ -78,8 +78,8 @@ pub fn work_all<N: HeldName + Send + Sync, G: Gate, R: Threads + Wait + Sync>(
     ensures { IfOk result (λ done. HaveEnded site.now.queue.now site.now.jobs.now N.table N.heap (vec_len workers) done.items) }
 {
     let mut tasks = Vec::new(site.alloc);
-    tasks.push(Task::Jobs(workers))?;
     tasks.push(Task::Slack)?;
+    tasks.push(Task::Jobs(workers))?;
     let mut both = map_vec(
         rt,
         tasks,
@@ -89,11 +89,11 @@ pub fn work_all<N: HeldName + Send + Sync, G: Gate, R: Threads + Wait + Sync>(
             ensures { IfOk result (λ done. EndsTask site.entry.now.queue.now site.entry.now.jobs.now N.table N.heap task done.items) }
         { do_task(rt, held, site, task) },
     )?;
+    let Some(done) = both.pop() else {
+        unreachable!()
+    };
     if let Some(slack) = both.pop() {
         slack?;
     }
-    match both.pop() {
-        Some(done) => done,
-        None => unreachable!(),
-    }
+    done
 }
