@@ -101,7 +101,7 @@ fn work_both<R: Threads>(
     )
 }
 
-/// The seats work, while one more thread makes the collector's turns.
+/// The seats work, while one more thread makes the collector's turns. Where no thread can be had these come last, when both seats are through.
 pub fn work_all<R: Threads + Sync>(rt: &R, parties: Parties) -> Result<Parties, Memory> {
     let Parties {
         first,
@@ -109,10 +109,10 @@ pub fn work_all<R: Threads + Sync>(rt: &R, parties: Parties) -> Result<Parties, 
         collector,
     } = parties;
     let through = AtomicU64::new(0);
-    let ((first, second), collector) = join(
+    let (collector, (first, second)) = join(
         rt,
-        || work_both(rt, first, second, &through),
         || collect(collector, &through),
+        || work_both(rt, first, second, &through),
     );
     Ok(Parties {
         first: first?,
