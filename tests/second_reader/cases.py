@@ -13,7 +13,7 @@ from .known_swaps import BOARDS, SWAPS
 from .limits import limit_cases
 from .made import MOST_START, make
 from .play import play
-from .script import Script
+from .script import Heap, Script
 from .texts import DONE, Answer, NotLegal, done, not_legal, text_of
 from .worked import worked_plays
 
@@ -118,6 +118,18 @@ def crew_history(random: Random, runs: Runs) -> Case:
     return Case("history of a crew", ["crew", "--history"], changed_script(random, text) if random.random() < 0.6 else text)
 
 
+def draw_queue(random: Random) -> bytes:
+    """A queue's text: puts and takes of one seat or of several, over heaps of every kind."""
+    heap = Heap(random.choice((1, 1, 2, 64)), 0, random.randint(1, 8), random.choice((2, 3, 32, 46, 47)))
+    lines = [f"{random.randrange(heap.seats)} {random.choice((f'put {random.randint(0, 999)}', 'take'))}" for _ in range(random.choice((0, 1, 20, 200)))]
+    return text_of(["queue 1", heap.line(2), *lines])
+
+
+def queue_run(random: Random, runs: Runs) -> Case:
+    text = draw_queue(random)
+    return Case("queue", ["queue"], changed_script(random, text) if random.random() < 0.4 else text)
+
+
 def play_check(random: Random, runs: Runs) -> Case:
     return Case("check of a play", ["check"], draw_history(random))
 
@@ -184,6 +196,7 @@ KINDS: dict[str, tuple[int, Callable[[Random, Runs], Case]]] = {
     "drawn-changed": (14, changed_drawn),
     "run": (3, run_script),
     "crew": (4, crew_history),
+    "queue": (4, queue_run),
     "play-check": (5, play_check),
     "play-changed": (24, changed_check),
     "run-check": (3, run_check),

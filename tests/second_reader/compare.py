@@ -6,6 +6,8 @@ from pathlib import Path
 
 from .cases import Case, draw_case, fixed_cases
 from .forms import answer_words
+from .queue import queue_fault
+from .script import read_queue
 from .texts import DONE, LONGEST_HISTORY, Answer
 
 SECONDS = 120
@@ -44,10 +46,8 @@ def difference(name: str, answer: Answer, other: Answer) -> str | None:
     return f"the program has {shown(answer, other)}, {name} {shown(other, answer)}"
 
 
-def compare_run(program: Program, answer: Answer) -> str | None:
-    """What is wrong with the program's run of a script: both have to find its history legal."""
-    if answer.status != DONE or answer.error:
-        return f"the run ends with status {answer.status}, error {answer.error[:SHOWN]!r}"
+def compare_history(program: Program, answer: Answer) -> str | None:
+    """What is wrong with the history of a run: both have to find it legal."""
     entries = len(answer.output.split(b"\n")) - 4
     legal = Answer(DONE, b"legal %d\n" % entries, b"")
     own = program.answer(["check"], answer.output)
@@ -57,12 +57,21 @@ def compare_run(program: Program, answer: Answer) -> str | None:
     return difference("the second reader", own, second) or "both find the run not legal"
 
 
+def compare_run(program: Program, case: Case, answer: Answer) -> str | None:
+    """What is wrong with what the program tells of threads."""
+    if answer.status != DONE or answer.error:
+        return f"the run ends with status {answer.status}, error {answer.error[:SHOWN]!r}"
+    if case.words[0] == "queue":
+        return queue_fault(read_queue(case.text), answer.output)
+    return compare_history(program, answer)
+
+
 def compare(program: Program, case: Case) -> str | None:
     """How the program's answer to a case differs from the one expected."""
     answer = program.answer(case.words, case.text)
     expected = answer_words(case.words, case.text)
     if expected is None:
-        return compare_run(program, answer)
+        return compare_run(program, case, answer)
     if case.known is not None and expected != case.known:
         return f"the second reader has {shown(expected, case.known)}, worked out was {shown(case.known, expected)}"
     return difference("the second reader", answer, expected)

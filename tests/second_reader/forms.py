@@ -8,7 +8,8 @@ from .judge import check
 from .made import MOST_MADE, MOST_START, make
 from .plan import plan
 from .play import answer_play
-from .script import MOST_SEATS, SCRIPT_DIGITS, Script, read_crew, read_script
+from .queue import answer_without_room
+from .script import MOST_SEATS, SCRIPT_DIGITS, Script, read_crew, read_queue, read_script
 from .script import migrated as migrated_script
 from .texts import (LONGEST_SCRIPT, MOST_MIGRATED_HISTORY, MOST_MIGRATED_SCRIPT, Answer, Refused, done, number_of,
                     refused, text_of, too_long, usage)
@@ -71,8 +72,13 @@ def answer_threads(text: bytes, read: Callable[[bytes], Script]) -> Answer | Non
     return None
 
 
+def answer_queue(text: bytes) -> Answer | None:
+    """What is answered to a queue's text that can't be read, or whose heap has no room for a queue."""
+    return answer_threads(text, read_queue) or answer_without_room(read_queue(text))
+
+
 def answer_words(words: list[str], text: bytes) -> Answer | None:
-    """What the program answers; None where it is a run or a crew on threads, whose history isn't determined."""
+    """What the program answers; None where it is a run, a crew or a queue on threads, whose history isn't determined."""
     form, rest = (words[0], words[1:]) if words else ("", [])
     if form == "check" and not rest:
         return check(text)
@@ -91,4 +97,6 @@ def answer_words(words: list[str], text: bytes) -> Answer | None:
     if form == "crew":
         options = options_of(rest, ("--history",))
         return usage() if options is None else answer_threads(text, read_crew)
+    if form == "queue":
+        return usage() if rest else answer_queue(text)
     return usage()

@@ -81,7 +81,7 @@ def limit_cases() -> list[tuple[list[str], bytes]]:
     cases += [(["play"], f"schism 1\nheap 1 0 1\n{line}\n") for line in TWO_FAULTS]
     cases += [(["check"], f"history 1 play\nheap 1 0 1\n{line}\n") for line in BAD_ENTRIES]
     cases += [(["check"], f"history 1 run\nheap 1 0 1\n{line}\n") for line in ("c turns 1 = done", "c cycle = cycle 0")]
-    return [(words, text.encode()) for words, text in cases + second_version_cases() + crew_cases()]
+    return [(words, text.encode()) for words, text in cases + second_version_cases() + crew_cases() + queue_cases()]
 
 
 # Lines of a crew's text: the largest number of a job, and what a job has not.
@@ -94,6 +94,20 @@ def crew_cases() -> list[tuple[list[str], str]]:
     cases += [f"crew 1\nheap {heap}\n" for heap in BOARD_LIMITS]
     cases += [f"crew 1\nheap 1 0 1 32\n{line}\n" for line in JOB_LINES + TWO_FAULTS]
     return [(["crew", "--history"], text) for text in cases]
+
+
+# Lines of a queue's text: the largest number that is put, and what a queue has not.
+QUEUE_LINES = ("0 put 0", "0 put 1073741823", "0 put 1073741824", "0 put 01", "0 put", "0 put x", "0 put 1 1", "0 take 1", "0 take", "0 poll",
+               "0 get 1 0 0", "c turns 1", "1 put 1", "00 take", "0", "")
+
+
+def queue_cases() -> list[tuple[list[str], str]]:
+    """First lines, heap lines and lines of seats, right ones and others; and a heap that its board fills."""
+    cases = [f"{header}\nheap 1 0 1 32\n" for header in ("queue 1", "queue 2", "queue", "schism 2", "crew 1")]
+    cases += [f"queue 1\nheap {heap}\n" for heap in (*BOARD_LIMITS, "1 0 1 2", "1 0 1 1")]
+    cases += [f"queue 1\nheap 1 0 1 32\n{line}\n" for line in QUEUE_LINES]
+    cases += ["queue 1\nheap 1 0 1 47\n0 put 1\n", "queue 1\nheap 1 0 3 47\n2 take\n", "queue 1\nheap 1 0 1 46\n0 put 1\n0 put 2\n0 take\n"]
+    return [(["queue"], text) for text in cases]
 
 
 def second_version_cases() -> list[tuple[list[str], str]]:

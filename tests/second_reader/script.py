@@ -39,6 +39,7 @@ SEAT_COMMANDS = {
 }
 COLLECTOR_COMMANDS = {"turns": ((0, 1_000_000),), "cycle": ()}
 SWAP_COMMANDS = {"cas": (REGISTER, INDEX, REGISTER, REGISTER)}
+QUEUE_COMMANDS = {"put": ((0, 1_073_741_823),), "take": ()}
 
 
 def seat_commands(version: int) -> dict:
@@ -170,3 +171,13 @@ def read_crew(text: bytes) -> Script:
     version, heap = read_header(lines, {b"crew 1": VERSIONS[-1]})
     commands = {name: operands for name, operands in seat_commands(version).items() if name != "collect"}
     return Script(heap, [read_line(position, line, read_job, lambda job: commands) for position, line in enumerate(lines[2:], 3)], version)
+
+
+def read_queue(text: bytes) -> Script:
+    """Reads a queue's text, whose board has fields for the first and the last node."""
+    lines = lines_of(text)
+    version, heap = read_header(lines, {b"queue 1": VERSIONS[-1]})
+    if heap.board < 2:
+        raise Refused(2, "BadHeap")
+    return Script(heap, [read_line(position, line, lambda word: read_party(word, heap, False), lambda seat: QUEUE_COMMANDS)
+                         for position, line in enumerate(lines[2:], 3)], version)
