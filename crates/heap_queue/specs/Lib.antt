@@ -5,6 +5,8 @@ pub mod Histories
 pub mod Laws
 pub mod Places
 pub mod QueueText
+pub mod Running
+pub mod Served
 pub mod Serving
 pub mod Stages
 pub mod TellerState
