@@ -12,11 +12,15 @@ pub mod PutCalls
 pub mod PutMoves
 pub mod QueueLaws
 pub mod QueueTexts
+pub mod ScriptLines
+pub mod SeatTold
 pub mod ServingLogs
 pub mod ServingParts
 pub mod ServingSteps
 pub mod StageLists
 pub mod TakeMoves
 pub mod TellingSteps
+pub mod ToldRuns
 pub mod Views
 pub mod WholeCalls
+pub mod WrittenLines

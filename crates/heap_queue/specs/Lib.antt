@@ -4,8 +4,11 @@ pub mod Grows
 pub mod Histories
 pub mod Laws
 pub mod Places
+pub mod QueueLines
 pub mod QueueText
+pub mod RunText
 pub mod Running
+pub mod SeatScripts
 pub mod Served
 pub mod Serving
 pub mod Stages
