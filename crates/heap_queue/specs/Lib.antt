@@ -3,6 +3,8 @@ pub mod Effects
 pub mod Grows
 pub mod Histories
 pub mod Laws
+pub mod Leaving
+pub mod Opening
 pub mod Places
 pub mod QueueLines
 pub mod QueueText
@@ -14,3 +16,4 @@ pub mod Serving
 pub mod Stages
 pub mod TellerState
 pub mod Telling
+pub mod Working

@@ -15,8 +15,8 @@ use Rattle.heap_runs.specs.Finishing.{HasLogs, EndsUnused}
 use Rattle.heap_runs.specs.SeatWork.{IsOfTable}
 use Rattle.heap_queue.specs.declared.queue_command.QueueCommand.{QueueCommand}
 use Rattle.heap_queue.specs.declared.queue_run.QueueRan.{QueueRan}
-use Rattle.heap_queue.specs.declared.queue_run.QueueFault.{QueueFault}
-use Rattle.heap_queue.specs.declared.queue_run.QueueFault.TheVariants.{Full, Memory}
+use Rattle.heap_queue.specs.declared.queue_fault.QueueFault.{QueueFault}
+use Rattle.heap_queue.specs.declared.queue_fault.QueueFault.TheVariants.{Full, Memory}
 use Rattle.heap_queue.specs.Histories.{IsQueueHistory}
 use Rattle.heap_queue.specs.Served.{HasServed}
 use Rattle.heap_queue.specs.Serving.{IsQueueCommand}

@@ -3,12 +3,17 @@
 
 mod finding;
 mod laws;
+mod leaving;
 mod making;
+mod opening;
 mod putting;
 mod queue_command;
+mod queue_fault;
 mod queue_grammar;
 mod queue_line;
+mod queue_run;
 mod queue_script;
+mod refusing;
 mod rendering;
 mod replies;
 mod reply_words;
@@ -17,16 +22,20 @@ mod seat_scripts;
 mod serving;
 mod stage;
 mod stages;
+mod table_seat;
 mod taking;
 mod teller;
 mod telling;
 mod told;
+mod workers;
 
 pub use laws::{law_orders, law_queue};
 pub use making::make_queue;
 pub use putting::put;
 pub use queue_command::QueueCommand;
+pub use queue_fault::QueueFault;
 pub use queue_line::QueueLine;
+pub use queue_run::{QueueRan, run_queue};
 pub use queue_script::{QueueScript, read_queue};
 pub use rendering::{render_full, render_queue};
 pub use replies::{PutReply, TakeReply};

@@ -1,0 +1,98 @@
+ghost use Rattle.std.specs.Prelude.{◌≡◌, map, All, IfOk};
+ghost use Rattle.heap_queue.specs.Running.{script_at};
+ghost use Rattle.heap_queue.specs.Working.{MayServe, IsReadyToServe, HasWorked, HaveWorked};
+
+use crate::leaving::leave;
+use crate::queue_command::QueueCommand;
+use crate::serving::serve_script;
+use crate::table_seat::TableSeat;
+use heap_model::{Gate, Memory};
+use heap_record::{SlackWork, work_slack};
+use heap_runs::{Held, HeldName};
+use mutator_seat::Seat;
+use std::alloc::Global;
+use std::sync::{Mutex, Wait};
+use std::thread::{Threads, join, map_vec};
+
+/// Serves the script on the seat, which then leaves.
+fn serve_whole<N: HeldName, G: Gate, R: Wait>(
+    rt: &R,
+    mut seat: TableSeat<N>,
+    script: &[QueueCommand],
+    gate: &G,
+) -> Result<Seat, Memory>
+    requires { MayServe script.now seat }
+    ensures { IfOk result (HasWorked N.table N.heap seat.number script.now) }
+{
+    let number = seat.number();
+    serve_script(rt, &mut seat, number, script, gate)?;
+    let mut seat = seat.into_seat();
+    leave(&mut seat)?;
+    Ok(seat)
+}
+
+/// Does the work of the seat, and tells under the lock that its worker has ended, also where memory is wanting.
+fn work<N: HeldName, G: Gate, R: Wait>(
+    rt: &R,
+    held: &Mutex<Held<N>>,
+    seat: TableSeat<N>,
+    script: &[QueueCommand],
+    gate: &G,
+) -> Result<Seat, Memory>
+    requires { MayServe script.now seat }
+    ensures { IfOk result (HasWorked N.table N.heap seat.number script.now) }
+{
+    let done = serve_whole(rt, seat, script, gate);
+    held.lock(rt).end_one();
+    done
+}
+
+/// The seats of the workers that came to their ends, if memory was wanting to none.
+fn each_seat(alloc: Global, done: Vec<Result<Seat, Memory>>) -> Result<Vec<Seat>, Memory>
+    ensures { IfOk result (λ back. done.items ≡ map (λ seat. Ok seat) back.items) }
+{
+    let mut back = Vec::new(alloc);
+    for seat in done {
+        back.push(seat?)?;
+    }
+    Ok(back)
+}
+
+/// Lets each seat serve its script in a thread of its own and leave, while one more makes the collector's slack turns until it is told under the lock that all of these have ended, and hands
+/// the seats back in their order. Where a thread can't be had the caller does its work, and the slack turns come last then.
+pub(crate) fn work_all<N: HeldName + Send + Sync, G: Gate, R: Threads + Wait + Sync>(
+    rt: &R,
+    alloc: Global,
+    held: &Mutex<Held<N>>,
+    seats: Vec<TableSeat<N>>,
+    scripts: &[Vec<QueueCommand>],
+    gate: &G,
+) -> Result<Vec<Seat>, Memory>
+    requires { All (IsReadyToServe (map (λ script. script.items) scripts.now)) seats.items }
+    ensures { IfOk result (λ done. HaveWorked N.table N.heap (map (λ script. script.items) scripts.now) seats.items done.items) }
+{
+    let (turns, back) = join(
+        rt,
+        move || work_slack(rt, held, &mut ()),
+        move || -> Result<Vec<Seat>, Memory>
+            requires { All (IsReadyToServe (map (λ script. script.items) scripts.now)) seats.items }
+            ensures { IfOk result (λ done. HaveWorked N.table N.heap (map (λ script. script.items) scripts.entry.now) seats.items done.items) }
+        {
+            let done = map_vec(
+                rt,
+                seats,
+                &|seat: TableSeat<N>| -> Result<Seat, Memory>
+                    requires { IsReadyToServe (map (λ script. script.items) scripts.now) seat }
+                    ensures { IfOk result (HasWorked N.table N.heap seat.number (script_at (map (λ script. script.items) scripts.entry.now) seat.number)) }
+                {
+                    let number = seat.number() as usize;
+                    work(rt, held, seat, scripts[number].as_slice(), gate)
+                },
+            );
+            held.lock(rt).end();
+            each_seat(alloc, done?)
+        },
+    );
+    turns?;
+    back
+}
