@@ -7,6 +7,7 @@ pub mod Knowing
 pub mod Linking
 pub mod MakeMoves
 pub mod Moves
+pub mod OpenedQueue
 pub mod Others
 pub mod PutCalls
 pub mod PutMoves

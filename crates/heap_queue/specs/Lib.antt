@@ -16,4 +16,5 @@ pub mod Serving
 pub mod Stages
 pub mod TellerState
 pub mod Telling
+pub mod ToldBySeat
 pub mod Working
