@@ -12,11 +12,16 @@ pub mod PutCalls
 pub mod PutMoves
 pub mod QueueLaws
 pub mod QueueTexts
+pub mod SeatRegisters
+pub mod SeatTelling
+pub mod SeatsTold
 pub mod ServingLogs
 pub mod ServingParts
 pub mod ServingSteps
 pub mod StageLists
 pub mod TakeMoves
 pub mod TellingSteps
+pub mod ToldCalls
+pub mod ToldLogs
 pub mod Views
 pub mod WholeCalls

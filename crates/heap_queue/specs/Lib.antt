@@ -5,7 +5,9 @@ pub mod Histories
 pub mod Laws
 pub mod Places
 pub mod QueueText
+pub mod Served
 pub mod Serving
 pub mod Stages
 pub mod TellerState
 pub mod Telling
+pub mod ToldBySeat
