@@ -1,5 +1,5 @@
 -- Of each command of a seat's script one is told, in their order.
-use Rattle.std.proofs.Common.{◌≡◌, ℕ, ◌<◌, inl, inr, Bool, true, false, cond, eqb, List, [], ◌∷◌, ◌++◌, refl, sym, ap, ◌∙◌, subst, append-nil}
+use Rattle.std.proofs.Common.{◌≡◌, ℕ, ◌<◌, inl, inr, Bool, true, false, cond, eqb, List, [], ◌∷◌, ◌++◌, refl, sym, ap, ◌∙◌, subst, append-nil, append_assoc}
 use Rattle.heap_model.specs.declared.command.Command.TheVariants.{Num}
 use Rattle.heap_model.specs.declared.entry.Entry.{Entry}
 use Rattle.heap_model.specs.declared.entry.Entry.TheVariants.{Said}
@@ -104,7 +104,7 @@ served_tells number script log served =
         log_tells_none opening_held (start 0 number) served.opening found.due (subst IsBeside (sym found.stands) tt) (subst AreMakings (sym found.ended) (first_are_makings (eqb number 0))) in
     let last_none : told_along behind Rests served.leaving ≡ [] = log_tells_none behind Rests served.leaving left.due (subst IsBeside (sym left.stands) tt) (subst AreMakings (sym left.ended) tt) in
     let all : told_in number log ≡ told_along opened Rests served.serving =
-        tells_both opening_held (start 0 number) log served.opening (served.serving ++ served.leaving) served.log_is found.stands
+        tells_both opening_held (start 0 number) log served.opening (served.serving ++ served.leaving) (served.log_is ∙ append_assoc served.opening served.serving served.leaving) found.stands
         ∙ ap (λ (none : List Told). none ++ told_along opened Rests (served.serving ++ served.leaving)) first_none
         ∙ tells_both opened Rests (served.serving ++ served.leaving) served.serving served.leaving refl (each_rests number script served.calls served.serving served.served).stands
         ∙ ap (λ (none : List Told). told_along opened Rests served.serving ++ none) last_none
