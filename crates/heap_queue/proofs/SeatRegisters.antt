@@ -1,5 +1,5 @@
 -- What a seat's registers hold goes by its own commands and their replies.
-use Rattle.std.proofs.Common.{◌≡◌, ◌≢◌, ℕ, zero, suc, ◌<◌, inl, inr, Bool, true, false, cond, eqb, List, [], ◌∷◌, ◌++◌, length, get_or, replicate, refl, sym, ap, ◌∙◌, arith}
+use Rattle.std.proofs.Common.{◌≡◌, ◌≢◌, ℕ, zero, suc, ◌<◌, inl, inr, Bool, true, false, cond, List, [], ◌∷◌, ◌++◌, length, get_or, replicate, refl, sym, ap, ◌∙◌, arith}
 use Rattle.std.proofs.lemmas.Bool.{cases_lt}
 use Rattle.std.proofs.lemmas.Bool.Decides.{eqb_tells}
 use Rattle.std.proofs.lemmas.List.{append-nil, get_or_past, get_or-replicate, length-replicate}
@@ -16,7 +16,7 @@ use Rattle.heap_model.specs.declared.id.Value.TheVariants.{Nil, Number, Object}
 use Rattle.heap_model.specs.declared.reply.Reply.{Reply}
 use Rattle.heap_model.specs.declared.reply.Reply.TheVariants as replies
 use Rattle.heap_model.specs.Command.{IsCommand, IsTarget}
-use Rattle.heap_model.specs.Limits.{last_register, register_count}
+use Rattle.heap_model.specs.Limits.{last_register}
 use Rattle.heap_model.specs.Logs.{log_of}
 use Rattle.heap_model.specs.account.Cycles.{graph_of}
 use Rattle.heap_model.specs.account.Effects.{is_of}
@@ -87,7 +87,7 @@ held_by_log heap history s r = same_register_values s (graph_of heap (log_of s h
 pub held_by_other : (heap : Heap) (history : List Entry) (entry : Entry) (s : ℕ) → is_of s entry ≡ false → register_value (graph_of heap (history ++ entry ∷ [])) s ≡ register_value (graph_of heap history) s
 held_by_other heap history entry s apart =
     let same : log_of s (history ++ entry ∷ []) ≡ log_of s history =
-        filter-append (is_of s) history (entry ∷ []) ∙ ap (λ (b : Bool). log_of s history ++ cond b (entry ∷ []) []) apart ∙ append-nil (log_of s history) in
+    filter-append (is_of s) history (entry ∷ []) ∙ ap (λ (b : Bool). log_of s history ++ cond b (entry ∷ []) []) apart ∙ append-nil (log_of s history) in
     same_held _ _ (λ r. sym (held_by_log heap (history ++ entry ∷ []) s r) ∙ ap (λ (log : List Entry). register_value (graph_of heap log) s r) same ∙ held_by_log heap history s r)
 
 -- what they hold at the opening

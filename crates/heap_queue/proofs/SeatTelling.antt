@@ -11,7 +11,7 @@ use Rattle.heap_model.specs.Logs.{log_of}
 use Rattle.heap_model.specs.account.Cycles.{graph_of}
 use Rattle.heap_model.specs.account.Effects.{is_of}
 use Rattle.heap_model.specs.graph.Graph.{Graph, opening}
-use Rattle.heap_model.specs.graph.Growth.{after_entry, after_reply}
+use Rattle.heap_model.specs.graph.Growth.{after_reply}
 use Rattle.heap_model.specs.graph.Legal.{Accepts, AcceptsAll, IsObjectLegal}
 use Rattle.heap_model.specs.graph.Objects.{register_value}
 use Rattle.heap_model.proofs.Histories.{graph_after-more}
@@ -19,10 +19,10 @@ use Rattle.heap_model.proofs.graph_changes.GraphRegisters.{has_sixteen_registers
 use Rattle.heap_queue.specs.declared.told.Told.{Told}
 use Rattle.heap_queue.specs.declared.told.ToldCall.{ToldCall}
 use Rattle.heap_queue.specs.Effects.{Places, start, moved}
-use Rattle.heap_queue.specs.Places.{Place, after}
+use Rattle.heap_queue.specs.Places.{Place}
 use Rattle.heap_queue.specs.Telling as telling
 use Rattle.heap_queue.specs.Telling.{kept, told_from, told_of}
-use Rattle.heap_queue.specs.ToldBySeat.{told_by, held_after, if_told, opening_held, told_along, told_in}
+use Rattle.heap_queue.specs.ToldBySeat.{told_by, held_after, if_told, told_along, told_in}
 use Rattle.heap_queue.proofs.EveryHistory.{IsNoReply, moved_here, moved_other}
 use Rattle.heap_queue.proofs.SeatRegisters.{held_at_opening, held_by_other, held_by_reply}
 
@@ -67,7 +67,7 @@ module _ (heap : Heap) (number : ℕ) (done : List Entry) (place : Places) (comm
       let entry : Entry = Said number command reply in
       let grown : graph_of heap (done ++ entry ∷ []) ≡ after_reply g number command reply = graph_after-more (opening heap) done entry in
       let held : register_value (graph_of heap (done ++ entry ∷ [])) number ≡ held_after (register_value g number) command reply =
-          ap (λ (h : Graph). register_value h number) grown ∙ held_by_reply g number command reply present (has_sixteen_registers heap done number present) range says in
+      ap (λ (h : Graph). register_value h number) grown ∙ held_by_reply g number command reply present (has_sixteen_registers heap done number present) range says in
       let told : Option Told = telling.told_by (register_value g number) (place number) command reply in
       kept_of_seat number told (told_from (after_reply g number command reply) (moved place entry) rest)
       ∙ ap (λ (h : Graph). if_told told (told_by number (told_from h (moved place entry) rest))) (sym grown)

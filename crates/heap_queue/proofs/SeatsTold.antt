@@ -1,28 +1,25 @@
 -- Of each command of a seat's script one is told, in their order.
 use Rattle.std.proofs.Common.{◌≡◌, ℕ, ◌<◌, inl, inr, Bool, true, false, cond, eqb, List, [], ◌∷◌, ◌++◌, refl, sym, ap, ◌∙◌, subst, append-nil, append_assoc}
-use Rattle.heap_model.specs.declared.command.Command.TheVariants.{Num}
 use Rattle.heap_model.specs.declared.entry.Entry.{Entry}
-use Rattle.heap_model.specs.declared.entry.Entry.TheVariants.{Said}
 use Rattle.heap_model.specs.declared.heap.Heap.{Heap}
 use Rattle.heap_model.specs.declared.id.Value.{Value}
 use Rattle.heap_model.specs.declared.id.Value.TheVariants.{Number}
-use Rattle.heap_model.specs.declared.reply.Reply.TheVariants.{Done}
 use Rattle.heap_model.specs.Logs.{log_of}
 use Rattle.heap_model.specs.graph.Legal.{IsObjectLegal}
 use Rattle.heap_queue.specs.declared.queue_command.QueueCommand.{QueueCommand}
 use Rattle.heap_queue.specs.declared.queue_command.QueueCommand.TheVariants.{Put, Take}
 use Rattle.heap_queue.specs.declared.told.Told.{Told}
-use Rattle.heap_queue.specs.Calls.{Call, QueueMade, PutRefused, PutCall, TookInto, TakeCall, calls_in}
+use Rattle.heap_queue.specs.Calls.{Call, QueueMade, PutRefused, PutCall, TookInto, TakeCall}
 use Rattle.heap_queue.specs.Effects.{start}
 use Rattle.heap_queue.specs.Histories.{place_after}
 use Rattle.heap_queue.specs.Places.{Place, Rests}
 use Rattle.heap_queue.specs.Served.{HasServed}
-use Rattle.heap_queue.specs.Serving.{put_register, IsCallOf, AnswersBy, IsPolled, ServesBy, ServesEach, first_calls}
+use Rattle.heap_queue.specs.Serving.{put_register, IsCallOf, AnswersBy, IsPolled, ServesBy, ServesEach}
 use Rattle.heap_queue.specs.Telling.{told_of}
 use Rattle.heap_queue.specs.ToldBySeat.{told_by, opening_held, with_held, told_along, told_in, IsToldOf, TellEach}
 use Rattle.heap_queue.proofs.SeatTelling.{told_by_own_log}
 use Rattle.heap_queue.proofs.ServingLogs.{answered_rests, each_rests, served_rests}
-use Rattle.heap_queue.proofs.ToldCalls.{IsToldAs, TellsOne, call_tells}
+use Rattle.heap_queue.proofs.ToldCalls.{IsToldAs, call_tells}
 use Rattle.heap_queue.proofs.ToldLogs.{held_behind, told_then, IsBeside, AreMakings, log_tells_none}
 
 -- one is told of the command, and nothing else
@@ -101,14 +98,14 @@ served_tells number script log served =
     let opened : ℕ → Value = held_behind opening_held served.opening in
     let behind : ℕ → Value = held_behind opened served.serving in
     let first_none : told_along opening_held (start 0 number) served.opening ≡ [] =
-        log_tells_none opening_held (start 0 number) served.opening found.due (subst IsBeside (sym found.stands) tt) (subst AreMakings (sym found.ended) (first_are_makings (eqb number 0))) in
+    log_tells_none opening_held (start 0 number) served.opening found.due (subst IsBeside (sym found.stands) tt) (subst AreMakings (sym found.ended) (first_are_makings (eqb number 0))) in
     let last_none : told_along behind Rests served.leaving ≡ [] = log_tells_none behind Rests served.leaving left.due (subst IsBeside (sym left.stands) tt) (subst AreMakings (sym left.ended) tt) in
     let all : told_in number log ≡ told_along opened Rests served.serving =
-        tells_both opening_held (start 0 number) log served.opening (served.serving ++ served.leaving) (served.log_is ∙ append_assoc served.opening served.serving served.leaving) found.stands
-        ∙ ap (λ (none : List Told). none ++ told_along opened Rests (served.serving ++ served.leaving)) first_none
-        ∙ tells_both opened Rests (served.serving ++ served.leaving) served.serving served.leaving refl (each_rests number script served.calls served.serving served.served).stands
-        ∙ ap (λ (none : List Told). told_along opened Rests served.serving ++ none) last_none
-        ∙ append-nil (told_along opened Rests served.serving) in
+    tells_both opening_held (start 0 number) log served.opening (served.serving ++ served.leaving) (served.log_is ∙ append_assoc served.opening served.serving served.leaving) found.stands
+    ∙ ap (λ (none : List Told). none ++ told_along opened Rests (served.serving ++ served.leaving)) first_none
+    ∙ tells_both opened Rests (served.serving ++ served.leaving) served.serving served.leaving refl (each_rests number script served.calls served.serving served.served).stands
+    ∙ ap (λ (none : List Told). told_along opened Rests served.serving ++ none) last_none
+    ∙ append-nil (told_along opened Rests served.serving) in
     subst (TellEach script served.calls) (sym all) (each_tells opened number script served.calls served.serving served.served)
 
 -- a history tells of each seat what its own log tells, and that is one of each command of its script
