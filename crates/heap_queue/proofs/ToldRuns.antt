@@ -9,7 +9,6 @@ use Rattle.heap_model.specs.Logs.{log_of, logs_of}
 use Rattle.heap_model.specs.account.Noting.{is_collectors}
 use Rattle.heap_model.specs.declared.entry.Entry.{Entry}
 use Rattle.heap_model.specs.declared.heap.Heap.{Heap}
-use Rattle.heap_model.specs.Heap.{IsHeap}
 use Rattle.heap_model.specs.graph.Legal.{IsObjectLegal}
 use Rattle.script_text.specs.Text.{text_of}
 use Rattle.heap_table.specs.SeatHeld.{SeatHeld}
@@ -26,7 +25,7 @@ use Rattle.heap_queue.specs.Served.{HasServed}
 use Rattle.heap_queue.specs.Telling.{effects_in, told_of}
 use Rattle.heap_queue.specs.ToldBySeat.{TellEach, told_by, told_in}
 use Rattle.heap_queue.proofs.QueueLaws.{effects_are_legal}
-use Rattle.heap_queue.proofs.SeatTold.{each_seat_is_told}
+use Rattle.heap_queue.proofs.SeatsTold.{each_seat_is_told}
 
 -- where there is a seat at a position, there is a first one
 first_of : (seats : List SeatHeld) (position : ℕ) → position < length seats → SeatHeld
@@ -86,7 +85,7 @@ module _ (heap : Heap) (scripts : List (List QueueCommand)) (ran : QueueRan) (is
         (subst (λ (n : ℕ). HasServed n (script_at scripts n) seat.seat.mine) its_number
         (All-get_or (λ (one : SeatHeld). HasServed one.number (script_at scripts one.number) one.seat.mine) seats number (first_of seats number few) few is.whole.served))
 
-  module _ (room : IsHeap heap) (two : 2 ≤ heap.board) (history : List Entry) (legal : IsObjectLegal heap history) (kept : ran.closed.logs ≡ logs_of heap history) where
+  module _ (two : 2 ≤ heap.board) (history : List Entry) (legal : IsObjectLegal heap history) (kept : ran.closed.logs ≡ logs_of heap history) where
     is_queues : IsQueueHistory heap 0 history
     is_queues =
         subst (λ (h : Heap). IsQueueHistory h 0 history) is.of_heap
@@ -97,7 +96,7 @@ module _ (heap : Heap) (scripts : List (List QueueCommand)) (ran : QueueRan) (is
     seat_is_told number within =
         let log_is : slice_index_or ran.closed.logs number [] ≡ log_of number history = ap (λ (l : List (List Entry)). slice_index_or l number []) kept ∙ log_at heap history number within in
         let served : HasServed number (script_at scripts number) (log_of number history) = subst (λ (log : List Entry). HasServed number (script_at scripts number) log) log_is (has_served number within) in
-        let told = each_seat_is_told heap history number (script_at scripts number) room two legal within served in
+        let told = each_seat_is_told heap history number (script_at scripts number) legal within served in
         subst (λ (log : List Entry). TellsSeat number (script_at scripts number) log (told_of heap 0 history)) (sym log_is) (record {
           served = served.calls;
           ended = served.leads.ended;

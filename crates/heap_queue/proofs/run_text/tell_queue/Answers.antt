@@ -14,5 +14,5 @@ pub returns : goal.returns
 returns c = λ scripts is.
     let merged = c.in_ok-history in
     let calls = c.in_ok-calls in
-    IfOk-weaker c.render_queue.result _ _ (λ text written. text_tells_queue c.args.heap scripts c.args.ran.now is c.requires.heap c.requires.board merged.history.items merged.ensures.legal (sym c.logs.ensures.logs ∙ merged.ensures.kept) c.as_slice-2.result.now text.items ? ? written)
+    IfOk-weaker c.render_queue.result _ _ (λ text written. text_tells_queue c.args.heap scripts c.args.ran.now is c.requires.board merged.history.items merged.ensures.legal (sym c.logs.ensures.logs ∙ merged.ensures.kept) c.as_slice-2.result.now text.items ? ? written)
     c.render_queue.ensures
