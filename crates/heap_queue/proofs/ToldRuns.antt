@@ -1,5 +1,5 @@
 -- What is told of a queue's run is told of each seat of it.
-use Rattle.std.proofs.Common.{◌≡◌, ◌∙◌, ℕ, ◌<◌, ◌≤◌, List, [], ◌∷◌, ◌++◌, length, map, filter, get_or, All, refl, sym, ap, subst, arith}
+use Rattle.std.proofs.Common.{◌≡◌, ◌∙◌, ℕ, ◌<◌, ◌≤◌, List, [], ◌∷◌, ◌++◌, length, map, filter, get_or, All, refl, sym, ap, subst, arith, zero-add}
 use Rattle.std.specs.Prelude.{slice_index_or}
 use Rattle.std.specs.List.{range_with_len}
 use Rattle.std.proofs.lemmas.List.{get_or-map, get_or_append_left, length-map}
@@ -68,6 +68,7 @@ module _ (heap : Heap) (scripts : List (List QueueCommand)) (ran : QueueRan) (is
         sym (get_or-map (λ (one : SeatHeld). one.number) seats number (first_of seats number few) 0 few)
         ∙ ap (λ (l : List ℕ). get_or l number 0) is.whole.numbered
         ∙ get_or-range_with_len 0 is.collector.holder.heap.seats number 0 (omega (arith, within, ap (λ (h : Heap). h.seats) is.of_heap))
+        ∙ zero-add number
 
     its_log : slice_index_or ran.closed.logs number [] ≡ seat.seat.mine
     unfolding seat

@@ -24,6 +24,10 @@ queued_words value = value_words value
 abbrev pub again_words : ℕ → List (List ℕ)
 again_words stamp = codes "again" ∷ stamp_word stamp ∷ []
 
+-- the words of a Full
+abbrev pub full_words : ℕ → ℕ → List (List ℕ)
+full_words need found = lack_words (codes "full") need (codes "found") found
+
 -- the words of a reply that there is no queue
 abbrev pub no_queue_words : List (List ℕ)
 no_queue_words = codes "no" ∷ codes "queue" ∷ []
@@ -32,7 +36,7 @@ no_queue_words = codes "no" ∷ codes "queue" ∷ []
 abbrev pub put_reply_words : PutReply → List (List ℕ)
 put_reply_words puts.Ok = codes "ok" ∷ []
 put_reply_words (puts.Again stamp) = again_words stamp
-put_reply_words (puts.Full need found) = lack_words (codes "full") need (codes "found") found
+put_reply_words (puts.Full need found) = full_words need found
 put_reply_words puts.NoQueue = no_queue_words
 
 -- the words of a take's reply that has no value

@@ -15,17 +15,14 @@ use std::alloc::Global;
 fn has_put(told: Told) -> bool
     ensures { result ≡ has_put told }
 {
-    match told {
-        Told::Put { reply, .. } => reply == PutReply::Ok,
-        _ => false,
-    }
+    matches!(&told, Told::Put { reply: PutReply::Ok, .. })
 }
 
 /// Whether it is a take that got a value.
 fn has_taken(told: Told) -> bool
     ensures { result ≡ has_taken told }
 {
-    matches!(told, Told::Took { .. })
+    matches!(&told, Told::Took { .. })
 }
 
 /// How many values are left behind these puts and takes.

@@ -1,7 +1,7 @@
 ghost use Rattle.std.specs.Prelude.{◌≡◌, [], ◌∷◌, ◌++◌, OnOk};
 ghost use Rattle.script_text.specs.Text.{words_with_spaces};
 ghost use Rattle.reply_text.specs.write.Entries.{id_word, stamp_word};
-ghost use Rattle.heap_queue.specs.QueueLines.{again_words, no_queue_words, put_reply_words, queued_words, take_reply_words, told_words};
+ghost use Rattle.heap_queue.specs.QueueLines.{again_words, full_words, no_queue_words, put_reply_words, queued_words, take_reply_words, told_words};
 
 use crate::replies::{PutReply, TakeReply};
 use crate::told::Told;
@@ -54,6 +54,14 @@ fn push_again(text: &mut Vec<u8>, stamp: u32) -> Result<(), Memory>
     push_stamp(text, stamp)
 }
 
+fn push_full(text: &mut Vec<u8>, need: u32, found: u32) -> Result<(), Memory>
+    ensures { OnOk result (text.new.items ≡ text.old.items ++ words_with_spaces (full_words need found)) }
+{
+    push_word(text, b"full")?;
+    push_named(text, b"need", need.into())?;
+    push_named(text, b"found", found.into())
+}
+
 fn push_no_queue(text: &mut Vec<u8>) -> Result<(), Memory>
     ensures { OnOk result (text.new.items ≡ text.old.items ++ words_with_spaces no_queue_words) }
 {
@@ -67,11 +75,7 @@ fn push_put_reply(text: &mut Vec<u8>, reply: PutReply) -> Result<(), Memory>
     match reply {
         PutReply::Ok => push_word(text, b"ok"),
         PutReply::Again { stamp } => push_again(text, stamp),
-        PutReply::Full { need, found } => {
-            push_word(text, b"full")?;
-            push_named(text, b"need", need.into())?;
-            push_named(text, b"found", found.into())
-        }
+        PutReply::Full { need, found } => push_full(text, need, found),
         PutReply::NoQueue => push_no_queue(text),
     }
 }

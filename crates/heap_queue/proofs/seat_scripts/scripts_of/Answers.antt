@@ -18,3 +18,10 @@ loop-seat-preserved c =
     let told = c.in_ok-commands_of.ensures ∙ ap (λ lines. commands_of c.loop-seat.seat lines) c.as_slice.ensures in
     ap (map items) c.in_ok-push.ensures.items ∙ map-append items c.loop-seat.scripts.items (c.in_ok-commands_of.field-0 ∷ []) ∙ ap (λ (l : List (List QueueCommand)). l ++ c.in_ok-commands_of.field-0.items ∷ []) c.loop-seat.invariant
     ∙ ap (λ (l : List QueueCommand). map commands (range_with_len 0 c.loop-seat.seat) ++ l ∷ []) told ∙ sym (map-range_with_len_more commands 0 c.loop-seat.seat c.loop-seat.seat (omega arith))
+
+pub returns-clause-fit : goal.returns-clause-fit
+returns-clause-fit c =
+    let script = c.args.script.now in
+    let all : c.loop-seat.seat ≡ script.heap.seats = omega arith in
+    let told = c.loop-seat.invariant ∙ ap (λ (count : ℕ). map (λ number. commands_of number script.lines) (range_with_len 0 count)) all in
+    subst (All IsQueueScript) (sym told) (seat_scripts_fit script c.requires)
