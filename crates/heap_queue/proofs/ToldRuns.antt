@@ -1,5 +1,5 @@
 -- What is told of a queue's run is told of each seat of it.
-use Rattle.std.proofs.Common.{◌≡◌, ◌∙◌, ℕ, ◌<◌, ◌≤◌, List, [], ◌∷◌, ◌++◌, length, map, filter, get_or, All, refl, sym, ap, subst, arith, zero-add}
+use Rattle.std.proofs.Common.{◌≡◌, ◌∙◌, ℕ, ◌<◌, ◌≤◌, List, [], ◌∷◌, length, map, filter, get_or, sym, ap, subst, arith, zero-add}
 use Rattle.std.specs.Prelude.{slice_index_or}
 use Rattle.std.specs.List.{range_with_len}
 use Rattle.std.proofs.lemmas.List.{get_or-map, get_or_append_left, length-map}
@@ -23,7 +23,7 @@ use Rattle.heap_queue.specs.RunText.{HasRunQueue, TellsQueue, TellsSeat}
 use Rattle.heap_queue.specs.Running.{script_at}
 use Rattle.heap_queue.specs.Served.{HasServed}
 use Rattle.heap_queue.specs.Telling.{effects_in, told_of}
-use Rattle.heap_queue.specs.ToldBySeat.{TellEach, told_by, told_in}
+use Rattle.heap_queue.specs.ToldBySeat.{TellEach}
 use Rattle.heap_queue.proofs.QueueLaws.{effects_are_legal}
 use Rattle.heap_queue.proofs.SeatsTold.{each_seat_is_told}
 

@@ -1,5 +1,5 @@
 -- The scripts of the seats that the lines of a queue's text tell.
-use Rattle.std.specs.Prelude.{◌≡◌, ℕ, ◌==◌, ◌≤◌, All, List, filter, length, map}
+use Rattle.std.specs.Prelude.{ℕ, ◌==◌, List, filter, map}
 use Rattle.std.specs.List.{range_with_len}
 use Rattle.script_text.specs.Grammar.{IsTold}
 use Rattle.heap_queue.specs.declared.queue_command.QueueCommand.{QueueCommand}

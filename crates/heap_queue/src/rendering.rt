@@ -15,7 +15,13 @@ use std::alloc::Global;
 fn has_put(told: Told) -> bool
     ensures { result ≡ has_put told }
 {
-    matches!(&told, Told::Put { reply: PutReply::Ok, .. })
+    matches!(
+        &told,
+        Told::Put {
+            reply: PutReply::Ok,
+            ..
+        }
+    )
 }
 
 /// Whether it is a take that got a value.

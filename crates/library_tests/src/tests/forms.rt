@@ -191,7 +191,12 @@ fn asks_for_the_work_of_a_form(rt: HostRuntime) -> Result<(), Fail> {
         same(&rt, &asked(alloc, line), &Ok(Some(work)), &line);
         same(&rt, &work.most_bytes(), &Some(1_048_576), &line);
     }
-    same(&rt, &asked(alloc, "queue"), &Ok(Some(Work::Queue)), &"queue");
+    same(
+        &rt,
+        &asked(alloc, "queue"),
+        &Ok(Some(Work::Queue)),
+        &"queue",
+    );
     same(&rt, &Work::Queue.most_bytes(), &Some(1_048_576), &"queue");
     for (line, kind, most) in MIGRATIONS {
         let work = Work::Migrate(kind);

@@ -149,7 +149,11 @@ fn takes_in_the_order_of_puts(rt: HostRuntime) -> Result<(), Fail> {
     let answers = said_between(alloc, &text, b"1 take = ", b"")?;
     let taken = numbers_in(alloc, &answers)?;
     holds(&rt, answers.len() == COUNT as usize, &"each take is told");
-    holds(&rt, put.starts_with(&taken), &"what is taken is what was put");
+    holds(
+        &rt,
+        put.starts_with(&taken),
+        &"what is taken is what was put",
+    );
     let left = put.len().saturating_sub(taken.len());
     let end = format!(in alloc; "\nleft {left}\nend used 0\n")?;
     holds(&rt, text.ends_with(end.as_bytes()), &"the rest is left");

@@ -1,4 +1,4 @@
-use Rattle.std.proofs.Common.{◌≡◌, ◌++◌, ◌∷◌, [], ◌∙◌, codes, map, ap}
+use Rattle.std.proofs.Common.{◌++◌, ◌∷◌, [], ◌∙◌, codes, map, ap}
 use Rattle.script_text.specs.Words.{heap_line}
 use Rattle.heap_queue.specs.QueueLines.{call_line, left_in, left_line}
 use Rattle.heap_queue.specs.QueueText.{queue_preamble}
