@@ -1,5 +1,7 @@
-ghost use Rattle.std.specs.Prelude.{◌≡◌, ◌≤◌, map, All, IfOk, IfErr};
+ghost use Rattle.std.specs.Prelude.{◌≡◌, ◌*◌, ◌<◌, ◌≤◌, map, All, IfOk, IfErr};
 ghost use Rattle.std.specs.List.{range_with_len};
+ghost use Rattle.heap_model.specs.Limits.{group_fragments};
+ghost use Rattle.heap_model.specs.Needs.{record_fragments};
 ghost use Rattle.heap_queue.specs.Running.{MayRunQueue, IsQueueRan, IsFaultOf};
 ghost use Rattle.heap_queue.specs.Working.{IsReadyToServe};
 
@@ -10,6 +12,7 @@ use crate::refusing::refuse;
 use crate::table_seat::TableSeat;
 use crate::workers::work_all;
 use collector_turns::Collector;
+use heap_model::limits::GROUP_FRAGMENTS;
 use heap_model::{Gate, Memory};
 use heap_runs::{Held, HeldName, finish};
 use heap_table::Closed;
@@ -67,13 +70,17 @@ fn run_named<N: HeldName + Send + Sync, G: Gate, R: Threads + Wait + Sync>(
     requires may { MayRunQueue seats.items collector (map (λ script. script.items) scripts.now) }
     ensures ran { IfOk result (IsQueueRan (map (λ script. script.items) scripts.now) collector) }
     ensures full { IfErr result (IsFaultOf collector.holder.heap) }
+    ensures room { IfOk result (λ ran. record_fragments collector.holder.heap.board < group_fragments * collector.holder.heap.groups) }
 {
-    // What is true of every collector's heap is known from here on.
-    let _ = collector.heap();
+    let heap = collector.heap();
     let mut seats = table_seats::<N>(alloc, seats)?;
     let refused = open(&mut seats[0])?;
     if let Some(full) = refused {
         return Err(refuse(rt, alloc, seats, collector, full));
+    }
+    // Where the board has all fragments no node is made. That isn't proved here, and so it is asked.
+    if u32::from(heap.groups) * u32::from(GROUP_FRAGMENTS) <= heap.board_fragments() {
+        return Err(QueueFault::Memory);
     }
     let ran = serve_all(rt, alloc, seats, collector, scripts, pace, gate)?;
     Ok(ran)
@@ -94,6 +101,7 @@ pub fn run_queue<G: Gate, R: Threads + Wait + Sync>(
     requires may { MayRunQueue seats.items collector (map (λ script. script.items) scripts.now) }
     ensures ran { IfOk result (IsQueueRan (map (λ script. script.items) scripts.now) collector) }
     ensures full { IfErr result (IsFaultOf collector.holder.heap) }
+    ensures room { IfOk result (λ ran. record_fragments collector.holder.heap.board < group_fragments * collector.holder.heap.groups) }
 {
     run_named::<Brand, G, R>(rt, alloc, seats, collector, scripts, pace, gate)
 }
