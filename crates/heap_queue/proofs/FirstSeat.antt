@@ -1,9 +1,7 @@
 -- What the first seat tells as it makes the queue, or is refused its first node.
-use Rattle.std.proofs.Common.{◌≡◌, ℕ, ◌+◌, ◌<◌, ◌≤◌, inl, inr, List, [], ◌∷◌, ◌++◌, length, replicate, set, get_or, map, Option, Some, None, refl, sym, ap, ◌∙◌, subst, arith}
-use Rattle.std.specs.Prelude.{All}
+use Rattle.std.proofs.Common.{◌≡◌, ℕ, ◌+◌, ◌<◌, ◌≤◌, inl, inr, List, [], ◌∷◌, ◌++◌, length, replicate, get_or, false, Option, Some, None, refl, sym, ap, ◌∙◌, subst, arith}
 use Rattle.std.proofs.lemmas.Bool.{cases_lt}
 use Rattle.std.proofs.lemmas.List.{get_or-replicate, get_or_past, length-replicate}
-use Rattle.std.proofs.lemmas.List.Elements.{All-cons, All-head, All-tail, All-weaker}
 use Rattle.heap_model.specs.account.Space.{spent_of, taken_of}
 use Rattle.heap_model.specs.calls.SeatReplies.{LacksFragments}
 use Rattle.heap_model.specs.calls.SeatState.{SeatState, own_graph_seat}
@@ -11,7 +9,6 @@ use Rattle.heap_model.specs.declared.command.Command.{Command}
 use Rattle.heap_model.specs.declared.command.Command.TheVariants.{New}
 use Rattle.heap_model.specs.declared.entry.Entry.{Entry}
 use Rattle.heap_model.specs.declared.entry.Entry.TheVariants.{Said}
-use Rattle.heap_model.specs.declared.heap.Heap.{Heap}
 use Rattle.heap_model.specs.declared.reply.Reply.{Reply}
 use Rattle.heap_model.specs.declared.reply.Reply.TheVariants as replies
 use Rattle.heap_model.specs.graph.Graph.{GraphSeat, opening_graph_seat}
@@ -20,7 +17,6 @@ use Rattle.heap_model.specs.Needs.{record_fragments}
 use Rattle.heap_model.specs.declared.refusal.Full.{Full}
 use Rattle.heap_table.specs.SeatHeld.{SeatHeld}
 use Rattle.mutator_seat.specs.Resting.{seat_state}
-use Rattle.heap_runs.specs.CollectCall.{IsPresent}
 use Rattle.heap_queue.specs.Calls.{Call, QueueMade, MakeRefused, ends, IsWhole}
 use Rattle.heap_queue.specs.Grows.{Completes, Spends}
 use Rattle.heap_queue.specs.Opening.{OpensBy, HasOpened}
@@ -97,11 +93,11 @@ ends_refused (Said number command reply ∷ log) need found (step, inl ended) =
 ends_refused (Said number command reply ∷ log) need found (step, inr more) = absurd (goes_past command reply log need found more.0 more.1)
 ends_refused (entry ∷ log) need found whole = one_before entry need found log (ends_refused log need found whole)
 
--- the first seat of the table, which had told nothing, once it had room
-module _ (old new : SeatHeld) (number : old.number ≡ 0) (present : IsPresent old) (silent : old.seat.mine ≡ []) (spends : Spends 1 3 14 (seat_state old) (seat_state new)) where
+-- the first seat, which had told nothing, once it had room
+module _ (old : SeatState) (new : SeatHeld) (number : old.number ≡ 0) (present : (own_graph_seat old).left ≡ false) (silent : old.mine ≡ []) (spends : Spends 1 3 14 old (seat_state new)) where
   opens : (refused : Option Full) → OpensBy new.seat.mine refused → HasOpened new refused
   opens refused told =
-      let none = fresh (seat_state old) silent in
+      let none = fresh old silent in
       record {
         number_is = spends.number ∙ number;
         present = spends.left ∙ present;
@@ -111,21 +107,20 @@ module _ (old new : SeatHeld) (number : old.number ≡ 0) (present : IsPresent o
       }
 
   -- has made the queue
-  pub has_made : Completes MakesNode (seat_state old) (seat_state new) QueueMade → HasOpened new None
+  pub has_made : Completes MakesNode old (seat_state new) QueueMade → HasOpened new None
   has_made called =
       let log : new.seat.mine ≡ called.added = called.told ∙ ap (λ (l : List Entry). l ++ called.added) silent in
       opens None (subst (HasBegun 0) (sym log) (whole_leads MakesNode called.added QueueMade called.whole))
 
   -- or was refused its node
-  pub was_refused : (full : Full) → Completes MakesNode (seat_state old) (seat_state new) (MakeRefused full.need full.found) → LacksFragments (seat_state old) (seat_state new) (record_fragments 2) full.need full.found
-      → HasOpened new (Some full)
+  pub was_refused : (full : Full) → Completes MakesNode old (seat_state new) (MakeRefused full.need full.found) → LacksFragments old (seat_state new) (record_fragments 2) full.need full.found → HasOpened new (Some full)
   was_refused full called lacks =
       let need : full.need ≡ 1 = lacks.needed in
       let found : full.found ≡ 0 = omega (arith, lacks.too_few, need) in
       let ended = ends_refused called.added full.need full.found called.whole in
       let log : new.seat.mine ≡ called.added = called.told ∙ ap (λ (l : List Entry). l ++ called.added) silent in
-      let took : taken_of old.number old.seat.mine ≡ 0 = ap (taken_of old.number) silent in
-      let spent : spent_of old.number old.seat.mine ≡ 0 = ap (spent_of old.number) silent in
+      let took : taken_of old.number old.mine ≡ 0 = ap (taken_of old.number) silent in
+      let spent : spent_of old.number old.mine ≡ 0 = ap (spent_of old.number) silent in
       opens (Some full) (record {
         need_is = need;
         found_is = found;

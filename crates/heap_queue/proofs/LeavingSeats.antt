@@ -1,6 +1,8 @@
 -- A seat that leaves tells no more of the queue, takes nothing, and has gone.
-use Rattle.std.proofs.Common.{◌≡◌, ℕ, ◌==◌, inl, Bool, true, false, cond, List, [], ◌∷◌, ◌++◌, refl, ap, ◌∙◌, subst, sym, append_assoc, append-nil, arith}
+use Rattle.std.proofs.Common.{◌≡◌, ℕ, ◌==◌, inl, Bool, true, false, cond, List, [], ◌∷◌, ◌++◌, length, refl, ap, ◌∙◌, subst, sym, append-nil, arith}
+use Rattle.std.specs.Prelude.{All}
 use Rattle.std.proofs.lemmas.Bool.{eq-eqb, or_left, or_right}
+use Rattle.std.proofs.lemmas.List.Elements.{All-head, All-tail}
 use Rattle.std.proofs.lemmas.List.Folds.{list_any-append}
 use Rattle.std.proofs.lemmas.List.Sums.{sum_by-append}
 use Rattle.atomic_table.specs.Seated.{TableId}
@@ -16,7 +18,8 @@ use Rattle.heap_model.specs.declared.reply.Reply.TheVariants.{Done}
 use Rattle.core_machine.specs.calls.Kept.{Kept}
 use Rattle.heap_table.specs.SeatHeld.{SeatHeld}
 use Rattle.mutator_seat.specs.Calls.{MakesCall}
-use Rattle.mutator_seat.specs.Resting.{MakesRoom}
+use Rattle.mutator_seat.specs.Resting.{seat_state, MakesRoom}
+use Rattle.heap_runs.specs.CollectCall.{IsPresent}
 use Rattle.heap_runs.specs.Finishing.{HasGone}
 use Rattle.heap_runs.specs.SeatWork.{IsOfTable}
 use Rattle.heap_queue.specs.declared.queue_command.QueueCommand.{QueueCommand}
@@ -26,7 +29,8 @@ use Rattle.heap_queue.specs.Histories.{Leads}
 use Rattle.heap_queue.specs.Leaving.{Leaves}
 use Rattle.heap_queue.specs.Places.{Rests, Gone}
 use Rattle.heap_queue.specs.Served.{HasServed}
-use Rattle.heap_queue.specs.Serving.{first_calls, HasCome}
+use Rattle.heap_queue.specs.Serving.{first_calls, GoesOnBy, HasCome}
+use Rattle.heap_queue.specs.Working.{HasWorked}
 use Rattle.heap_queue.proofs.ServingLogs.{leads_on}
 
 -- the call of a leave, once there is room for it
@@ -51,7 +55,7 @@ leave_leads_by number unborn false = record { due = (inl tt, tt); stands = refl;
 pub leave_leads : (number unborn : ℕ) → Leads Rests (leave_entries number unborn) Gone []
 leave_leads number unborn = leave_leads_by number unborn (unborn == 0)
 
-none_either : (own : Bool) → cond own 0 0 ≡ 0
+none_either : (own : Bool) → cond {A = ℕ} own 0 0 ≡ 0
 none_either true = refl
 none_either false = refl
 
@@ -79,9 +83,9 @@ has_gone table heap old new was leaves =
     }
 
 -- a seat that has served its script and then left
-pub has_served : (number unborn : ℕ) (script : List QueueCommand) (log : List Entry) → HasCome number script log → HasServed number script (log ++ leave_entries number unborn)
-has_served number unborn script log come =
-    let leaving = leave_entries number unborn in
+has_served : (number seat unborn : ℕ) (script : List QueueCommand) (log : List Entry) → HasCome number script log → HasServed number script (log ++ leave_entries seat unborn)
+has_served number seat unborn script log come =
+    let leaving = leave_entries seat unborn in
     record {
       opening = come.opening;
       found = come.found;
@@ -89,8 +93,22 @@ has_served number unborn script log come =
       serving = come.serving;
       served = come.served;
       leaving = leaving;
-      left = leave_leads number unborn;
-      log_is = ap (λ (l : List Entry). l ++ leaving) come.log_is ∙ append_assoc come.opening come.serving leaving;
+      left = leave_leads seat unborn;
+      log_is = ap (λ (l : List Entry). l ++ leaving) come.log_is;
       leads = subst (λ (calls : List Call). Leads (start 0 number) (log ++ leaving) Gone calls) (append-nil (first_calls number ++ come.calls))
-          (leads_on (start 0 number) Rests Gone log leaving (first_calls number ++ come.calls) [] come.leads (leave_leads number unborn));
+          (leads_on (start 0 number) Rests Gone log leaving (first_calls number ++ come.calls) [] come.leads (leave_leads seat unborn));
     }
+
+pub has_worked : (table : TableId) (heap : Heap) (number : ℕ) (script : List QueueCommand) (old served gone : SeatHeld) → IsOfTable table heap served → number ≡ old.number
+    → GoesOnBy (length script) (λ added. HasCome number script (old.seat.mine ++ added)) (seat_state old) (seat_state served) → Leaves served gone → HasWorked table heap old.number script gone
+has_worked table heap number script old served gone of_table is went left = record {
+  number_is = left.number_stays ∙ went.number;
+  served = subst (λ (n : ℕ). HasServed n script gone.seat.mine) is
+      (subst (HasServed number script) (sym left.mine) (has_served number served.number left.unborn script served.seat.mine (subst (HasCome number script) (sym went.told) went.tells)));
+  gone = has_gone table heap served gone of_table left;
+}
+
+-- the seat that comes next is there
+pub next_is_present : (before behind : List SeatHeld) (seat : SeatHeld) → All IsPresent (before ++ seat ∷ behind) → IsPresent seat
+next_is_present [] behind seat all = All-head IsPresent seat behind all
+next_is_present (one ∷ before) behind seat all = next_is_present before behind seat (All-tail IsPresent one (before ++ seat ∷ behind) all)

@@ -93,7 +93,7 @@ module _ (heap : Heap) (history : List Entry) (legal : IsLegal heap false histor
   found_by front back parted spent =
       let refusal : Entry = Said 0 (New 15 2) (Full 1 0) in
       let keeps : KeepsSpace heap false front refusal = keeps_there heap false [] front back refusal (subst (KeepsSpaceAfter heap false []) parted legal.space) in
-      let finds : FindsSpace heap false front 0 0 = keeps.refuses.2.1 in
+      let finds : FindsSpace heap false front 0 0 = keeps.refuses.2 in
       let taken : total (λ e. e.taken) front ≡ 0
       = omega (arith, none_taken history none, ap (total (λ e. e.taken)) parted, sum_by-append (λ e. (effect_of e).taken) front (refusal ∷ back)) in
       let freed = total_since_reply 0 (λ e. e.freed) front in

@@ -5,11 +5,10 @@ ghost use Rattle.heap_model.specs.Needs.{record_fragments};
 ghost use Rattle.heap_queue.specs.Running.{MayRunQueue, IsQueueRan, IsFaultOf};
 ghost use Rattle.heap_queue.specs.Working.{IsReadyToServe};
 
-use crate::opening::{open, table_seats};
+use crate::opening::open;
 use crate::queue_command::QueueCommand;
 use crate::queue_fault::QueueFault;
 use crate::refusing::refuse;
-use crate::table_seat::TableSeat;
 use crate::workers::work_all;
 use collector_turns::Collector;
 use heap_model::limits::GROUP_FRAGMENTS;
@@ -33,7 +32,7 @@ pub struct QueueRan {
 fn serve_all<N: HeldName + Send + Sync, G: Gate, R: Threads + Wait + Sync>(
     rt: &R,
     alloc: Global,
-    seats: Vec<TableSeat<N>>,
+    seats: Vec<Seat>,
     collector: Collector,
     scripts: &[Vec<QueueCommand>],
     pace: Box<dyn Pace>,
@@ -44,7 +43,7 @@ fn serve_all<N: HeldName + Send + Sync, G: Gate, R: Threads + Wait + Sync>(
     requires before { collector.holder.known.collector.log ≡ N.before }
     requires some { 1 ≤ collector.holder.heap.seats }
     requires numbered { map (λ seat. seat.number) seats.items ≡ range_with_len 0 collector.holder.heap.seats }
-    requires ready { All (IsReadyToServe (map (λ script. script.items) scripts.now)) seats.items }
+    requires ready { All (IsReadyToServe N.table N.heap (map (λ script. script.items) scripts.now)) seats.items }
     ensures { IfOk result (IsQueueRan (map (λ script. script.items) scripts.now) collector) }
 {
     let held = Mutex::new(Held::<N>::new(collector, pace));
@@ -58,7 +57,7 @@ fn serve_all<N: HeldName + Send + Sync, G: Gate, R: Threads + Wait + Sync>(
 fn run_named<N: HeldName + Send + Sync, G: Gate, R: Threads + Wait + Sync>(
     rt: &R,
     alloc: Global,
-    seats: Vec<Seat>,
+    mut seats: Vec<Seat>,
     collector: Collector,
     scripts: &[Vec<QueueCommand>],
     pace: Box<dyn Pace>,
@@ -73,8 +72,7 @@ fn run_named<N: HeldName + Send + Sync, G: Gate, R: Threads + Wait + Sync>(
     ensures room { IfOk result (λ ran. record_fragments collector.holder.heap.board < group_fragments * collector.holder.heap.groups) }
 {
     let heap = collector.heap();
-    let mut seats = table_seats::<N>(alloc, seats)?;
-    let refused = open(&mut seats[0])?;
+    let refused = open::<N>(&mut seats)?;
     if let Some(full) = refused {
         return Err(refuse(rt, alloc, seats, collector, full));
     }
@@ -82,7 +80,7 @@ fn run_named<N: HeldName + Send + Sync, G: Gate, R: Threads + Wait + Sync>(
     if u32::from(heap.groups) * u32::from(GROUP_FRAGMENTS) <= heap.board_fragments() {
         return Err(QueueFault::Memory);
     }
-    let ran = serve_all(rt, alloc, seats, collector, scripts, pace, gate)?;
+    let ran = serve_all::<N, G, R>(rt, alloc, seats, collector, scripts, pace, gate)?;
     Ok(ran)
 }
 

@@ -1,4 +1,5 @@
 ghost use Rattle.std.specs.Prelude.{◌≡◌, map, All, IfOk};
+ghost use Rattle.heap_runs.specs.SeatWork.{IsOfTable};
 ghost use Rattle.heap_queue.specs.Running.{script_at};
 ghost use Rattle.heap_queue.specs.Working.{MayServe, IsReadyToServe, HasWorked, HaveWorked};
 
@@ -17,14 +18,16 @@ use std::thread::{Threads, join, map_vec};
 /// Serves the script on the seat, which then leaves.
 fn serve_whole<N: HeldName, G: Gate, R: Wait>(
     rt: &R,
-    mut seat: TableSeat<N>,
+    seat: Seat,
     script: &[QueueCommand],
     gate: &G,
 ) -> Result<Seat, Memory>
-    requires { MayServe script.now seat }
+    requires of_table { IsOfTable N.table N.heap seat }
+    requires may { MayServe script.now seat }
     ensures { IfOk result (HasWorked N.table N.heap seat.number script.now) }
 {
     let number = seat.number();
+    let mut seat = TableSeat::<N>::new(seat);
     serve_script(rt, &mut seat, number, script, gate)?;
     let mut seat = seat.into_seat();
     leave(&mut seat)?;
@@ -35,14 +38,15 @@ fn serve_whole<N: HeldName, G: Gate, R: Wait>(
 fn work<N: HeldName, G: Gate, R: Wait>(
     rt: &R,
     held: &Mutex<Held<N>>,
-    seat: TableSeat<N>,
+    seat: Seat,
     script: &[QueueCommand],
     gate: &G,
 ) -> Result<Seat, Memory>
-    requires { MayServe script.now seat }
+    requires of_table { IsOfTable N.table N.heap seat }
+    requires may { MayServe script.now seat }
     ensures { IfOk result (HasWorked N.table N.heap seat.number script.now) }
 {
-    let done = serve_whole(rt, seat, script, gate);
+    let done = serve_whole::<N, G, R>(rt, seat, script, gate);
     held.lock(rt).end_one();
     done
 }
@@ -64,25 +68,25 @@ pub(crate) fn work_all<N: HeldName + Send + Sync, G: Gate, R: Threads + Wait + S
     rt: &R,
     alloc: Global,
     held: &Mutex<Held<N>>,
-    seats: Vec<TableSeat<N>>,
+    seats: Vec<Seat>,
     scripts: &[Vec<QueueCommand>],
     gate: &G,
 ) -> Result<Vec<Seat>, Memory>
-    requires { All (IsReadyToServe (map (λ script. script.items) scripts.now)) seats.items }
+    requires { All (IsReadyToServe N.table N.heap (map (λ script. script.items) scripts.now)) seats.items }
     ensures { IfOk result (λ done. HaveWorked N.table N.heap (map (λ script. script.items) scripts.now) seats.items done.items) }
 {
     let (turns, back) = join(
         rt,
         move || work_slack(rt, held, &mut ()),
         move || -> Result<Vec<Seat>, Memory>
-            requires { All (IsReadyToServe (map (λ script. script.items) scripts.now)) seats.items }
+            requires { All (IsReadyToServe N.table N.heap (map (λ script. script.items) scripts.now)) seats.items }
             ensures { IfOk result (λ done. HaveWorked N.table N.heap (map (λ script. script.items) scripts.entry.now) seats.items done.items) }
         {
             let done = map_vec(
                 rt,
                 seats,
-                &|seat: TableSeat<N>| -> Result<Seat, Memory>
-                    requires { IsReadyToServe (map (λ script. script.items) scripts.now) seat }
+                &|seat: Seat| -> Result<Seat, Memory>
+                    requires { IsReadyToServe N.table N.heap (map (λ script. script.items) scripts.now) seat }
                     ensures { IfOk result (HasWorked N.table N.heap seat.number (script_at (map (λ script. script.items) scripts.entry.now) seat.number)) }
                 {
                     let number = seat.number() as usize;
