@@ -11,6 +11,7 @@ pub mod Running
 pub mod Served
 pub mod Serving
 pub mod Stages
+pub mod Tasks
 pub mod TellerState
 pub mod Telling
 pub mod Working

@@ -8,17 +8,17 @@ use Rattle.heap_queue.specs.declared.queue_command.QueueCommand.{QueueCommand}
 use Rattle.heap_queue.specs.Running.{script_at}
 use Rattle.heap_queue.specs.Working.{HasWorked, HaveEnded, HaveWorked}
 use Rattle.heap_queue.proofs.ServedSeats.{all_have_worked}
-use Rattle.heap_queue.proofs.workers.fn.work_all.join+arg3.Goals as goal
+use Rattle.heap_queue.proofs.workers.serve_seats.Goals as goal
 
 pub returns : goal.returns
 returns g c =
     let table = g.N.HeldName.table in
     let heap = g.N.HeldName.heap in
-    let scripts : List (List QueueCommand) = map (λ (script : Vec QueueCommand Global). script.items) c.captures.scripts.now in
-    let seats : List SeatHeld = c.captures.seats.items in
+    let scripts : List (List QueueCommand) = map (λ (script : Vec QueueCommand Global). script.items) c.args.scripts.now in
+    let seats : List SeatHeld = c.args.seats.items in
     let done : List (Result SeatHeld Memory) = c.in_ok-done.field-0.items in
     let ended : HaveEnded table heap scripts seats done = record {
-      each_once = sym c.in_ok-done.field-0.ok.0 ∙ c.in_ok-done.ensures.len ∙ c.captures.seats.ok.0;
+      each_once = sym c.in_ok-done.field-0.ok.0 ∙ c.in_ok-done.ensures.len ∙ c.args.seats.ok.0;
       each = λ position old end was now.
           let gives = (c.in_ok-done.ensures.each position end (slice_get_within seats position old was)).1 in
           let met : IfOk (slice_index_or done position end) (HasWorked table heap gives.job.number (script_at scripts gives.job.number)) = gives.call.met in
