@@ -14,6 +14,7 @@ pub mod SeatScripts
 pub mod Served
 pub mod Serving
 pub mod Stages
+pub mod Tasks
 pub mod TellerState
 pub mod Telling
 pub mod ToldBySeat

@@ -1,14 +1,16 @@
 -- What the first seat has told once it made the queue, or was refused its first node.
-use Rattle.std.specs.Prelude.{◌≡◌, ℕ, ◌≤◌, List, [], ◌∷◌, ◌++◌, slice_get, All, Option, Some, None}
+use Rattle.std.specs.Prelude.{◌≡◌, ℕ, ◌≤◌, List, [], ◌∷◌, ◌++◌, slice_get, slice_set, All, Option, Some, None}
+use Rattle.atomic_table.specs.Seated.{TableId}
 use Rattle.heap_model.specs.account.Space.{spent_of, taken_of}
 use Rattle.heap_model.specs.declared.command.Command.TheVariants.{New}
 use Rattle.heap_model.specs.declared.entry.Entry.{Entry}
 use Rattle.heap_model.specs.declared.entry.Entry.TheVariants.{Said}
+use Rattle.heap_model.specs.declared.heap.Heap.{Heap}
 use Rattle.heap_model.specs.declared.refusal.Full.{Full}
 use Rattle.heap_model.specs.declared.reply.Reply.TheVariants as replies
 use Rattle.heap_table.specs.SeatHeld.{SeatHeld}
 use Rattle.heap_runs.specs.CollectCall.{IsPresent}
-use Rattle.heap_runs.specs.SeatWork.{objects_of, sets_of}
+use Rattle.heap_runs.specs.SeatWork.{IsOfTable, objects_of, sets_of}
 use Rattle.heap_queue.specs.Serving.{HasBegun}
 
 -- the log's one reply refuses a node for want of the one fragment that it needs, and the first seat, which found none, has taken and spent none
@@ -33,6 +35,13 @@ pub record HasOpened (seat : SeatHeld) (refused : Option Full) : Type 0 where
   pub objects : objects_of seat ≤ 1
   pub sets : sets_of seat ≤ 3
   pub told : OpensBy seat.seat.mine refused
+
+-- the first seat stands in the place of the one that it was, and has made the queue or was refused its first node; the others are as they were
+pub record OpensFirst (table : TableId) (heap : Heap) (olds news : List SeatHeld) (refused : Option Full) : Type 0 where
+  pub first : SeatHeld
+  pub of_table : IsOfTable table heap first
+  pub opened : HasOpened first refused
+  pub news_are : news ≡ slice_set olds 0 first
 
 -- the first of the seats was refused a node, and none of them has taken a fragment
 pub record AreRefused (seats : List SeatHeld) (full : Full) : Type 0 where

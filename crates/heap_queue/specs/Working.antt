@@ -6,6 +6,7 @@ use Rattle.heap_model.specs.declared.heap.Heap.{Heap}
 use Rattle.heap_table.specs.SeatHeld.{SeatHeld}
 use Rattle.mutator_seat.specs.Resting.{seat_state}
 use Rattle.heap_runs.specs.Finishing.{HasGone}
+use Rattle.heap_runs.specs.SeatWork.{IsOfTable}
 use Rattle.heap_queue.specs.declared.queue_command.QueueCommand.{QueueCommand}
 use Rattle.heap_queue.specs.Running.{script_at}
 use Rattle.heap_queue.specs.Served.{HasServed}
@@ -17,8 +18,9 @@ pub record MayServe (script : List QueueCommand) (seat : SeatHeld) : Type 0 wher
   pub may : HasLeftFor (length script) (seat_state seat)
   pub begun : HasBegun seat.number seat.seat.mine
 
--- the seat has a script, and may serve it
-pub record IsReadyToServe (scripts : List (List QueueCommand)) (seat : SeatHeld) : Type 0 where
+-- the seat is one of the table, has a script, and may serve it
+pub record IsReadyToServe (table : TableId) (heap : Heap) (scripts : List (List QueueCommand)) (seat : SeatHeld) : Type 0 where
+  pub of_table : IsOfTable table heap seat
   pub scripted : seat.number < length scripts
   pub may : MayServe (script_at scripts seat.number) seat
 

@@ -2,9 +2,7 @@ ghost use Rattle.std.specs.Prelude.{All, IfOk, OnOk};
 ghost use Rattle.heap_runs.specs.CollectCall.{IsPresent};
 ghost use Rattle.heap_queue.specs.Leaving.{Leaves, EachLeaves};
 
-use crate::table_seat::TableSeat;
 use heap_model::{Memory, SeatCalls};
-use heap_runs::HeldName;
 use mutator_seat::Seat;
 use std::alloc::Global;
 
@@ -19,16 +17,12 @@ pub(crate) fn leave(seat: &mut Seat) -> Result<(), Memory>
 }
 
 /// Lets each seat leave, in their order.
-pub(crate) fn leave_all<N: HeldName>(
-    alloc: Global,
-    seats: Vec<TableSeat<N>>,
-) -> Result<Vec<Seat>, Memory>
+pub(crate) fn leave_all(alloc: Global, seats: Vec<Seat>) -> Result<Vec<Seat>, Memory>
     requires { All IsPresent seats.items }
     ensures { IfOk result (λ gone. EachLeaves seats.items gone.items) }
 {
     let mut gone = Vec::new(alloc);
-    for seat in seats {
-        let mut seat = seat.into_seat();
+    for mut seat in seats {
         leave(&mut seat)?;
         gone.push(seat)?;
     }

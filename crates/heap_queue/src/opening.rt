@@ -1,32 +1,17 @@
-ghost use Rattle.std.specs.Prelude.{◌≡◌, [], All, IfOk};
+ghost use Rattle.std.specs.Prelude.{◌≡◌, ◌≤◌, [], map, All, IfOk};
+ghost use Rattle.std.specs.List.{range_with_len};
 ghost use Rattle.heap_runs.specs.CollectCall.{IsPresent};
-ghost use Rattle.heap_runs.specs.SeatWork.{IsOfTable};
-ghost use Rattle.heap_queue.specs.Opening.{HasOpened};
+ghost use Rattle.heap_queue.specs.Opening.{HasOpened, OpensFirst};
+ghost use Rattle.heap_queue.specs.Running.{IsUntouched};
 
 use crate::making::make_queue;
 use crate::table_seat::TableSeat;
 use heap_model::{Full, Memory, SeatCalls};
 use heap_runs::HeldName;
 use mutator_seat::Seat;
-use std::alloc::Global;
-
-/// The seats, which are all of the table that the name tells.
-pub(crate) fn table_seats<N: HeldName>(
-    alloc: Global,
-    seats: Vec<Seat>,
-) -> Result<Vec<TableSeat<N>>, Memory>
-    requires { All (IsOfTable N.table N.heap) seats.items }
-    ensures { IfOk result (λ named. named.items ≡ seats.items) }
-{
-    let mut named = Vec::new(alloc);
-    for seat in seats {
-        named.push(TableSeat::<N>::new(seat))?;
-    }
-    Ok(named)
-}
 
 /// Makes the queue on the first seat, once it has room for it, and tells the refusal of its first node, if that was refused.
-pub(crate) fn open<N: HeldName>(first: &mut TableSeat<N>) -> Result<Option<Full>, Memory>
+fn open_first<N: HeldName>(first: &mut TableSeat<N>) -> Result<Option<Full>, Memory>
     requires number { first.old.number ≡ 0 }
     requires present { IsPresent first.old }
     requires silent { first.old.seat.mine ≡ [] }
@@ -37,4 +22,17 @@ pub(crate) fn open<N: HeldName>(first: &mut TableSeat<N>) -> Result<Option<Full>
         Ok(_) => Ok(None),
         Err(full) => Ok(Some(full)),
     }
+}
+
+/// Makes the queue on the first of all seats of the table, and tells the refusal of its first node, if that was refused.
+pub(crate) fn open<N: HeldName>(seats: &mut Vec<Seat>) -> Result<Option<Full>, Memory>
+    requires some { 1 ≤ N.heap.seats }
+    requires numbered { map (λ seat. seat.number) seats.old.items ≡ range_with_len 0 N.heap.seats }
+    requires untouched { All (IsUntouched N.table N.heap) seats.old.items }
+    ensures { IfOk result (OpensFirst N.table N.heap seats.old.items seats.new.items) }
+{
+    let mut first = TableSeat::<N>::new(seats.remove(0));
+    let refused = open_first(&mut first)?;
+    seats.insert(0, first.into_seat())?;
+    Ok(refused)
 }

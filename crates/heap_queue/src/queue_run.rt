@@ -1,15 +1,17 @@
-ghost use Rattle.std.specs.Prelude.{◌≡◌, ◌≤◌, map, All, IfOk, IfErr};
+ghost use Rattle.std.specs.Prelude.{◌≡◌, ◌*◌, ◌<◌, ◌≤◌, map, All, IfOk, IfErr};
 ghost use Rattle.std.specs.List.{range_with_len};
+ghost use Rattle.heap_model.specs.Limits.{group_fragments};
+ghost use Rattle.heap_model.specs.Needs.{record_fragments};
 ghost use Rattle.heap_queue.specs.Running.{MayRunQueue, IsQueueRan, IsFaultOf};
 ghost use Rattle.heap_queue.specs.Working.{IsReadyToServe};
 
-use crate::opening::{open, table_seats};
+use crate::opening::open;
 use crate::queue_command::QueueCommand;
 use crate::queue_fault::QueueFault;
 use crate::refusing::refuse;
-use crate::table_seat::TableSeat;
 use crate::workers::work_all;
 use collector_turns::Collector;
+use heap_model::limits::GROUP_FRAGMENTS;
 use heap_model::{Gate, Memory};
 use heap_runs::{Held, HeldName, finish};
 use heap_table::Closed;
@@ -30,7 +32,7 @@ pub struct QueueRan {
 fn serve_all<N: HeldName + Send + Sync, G: Gate, R: Threads + Wait + Sync>(
     rt: &R,
     alloc: Global,
-    seats: Vec<TableSeat<N>>,
+    seats: Vec<Seat>,
     collector: Collector,
     scripts: &[Vec<QueueCommand>],
     pace: Box<dyn Pace>,
@@ -41,7 +43,7 @@ fn serve_all<N: HeldName + Send + Sync, G: Gate, R: Threads + Wait + Sync>(
     requires before { collector.holder.known.collector.log ≡ N.before }
     requires some { 1 ≤ collector.holder.heap.seats }
     requires numbered { map (λ seat. seat.number) seats.items ≡ range_with_len 0 collector.holder.heap.seats }
-    requires ready { All (IsReadyToServe (map (λ script. script.items) scripts.now)) seats.items }
+    requires ready { All (IsReadyToServe N.table N.heap (map (λ script. script.items) scripts.now)) seats.items }
     ensures { IfOk result (IsQueueRan (map (λ script. script.items) scripts.now) collector) }
 {
     let held = Mutex::new(Held::<N>::new(collector, pace));
@@ -55,7 +57,7 @@ fn serve_all<N: HeldName + Send + Sync, G: Gate, R: Threads + Wait + Sync>(
 fn run_named<N: HeldName + Send + Sync, G: Gate, R: Threads + Wait + Sync>(
     rt: &R,
     alloc: Global,
-    seats: Vec<Seat>,
+    mut seats: Vec<Seat>,
     collector: Collector,
     scripts: &[Vec<QueueCommand>],
     pace: Box<dyn Pace>,
@@ -67,15 +69,18 @@ fn run_named<N: HeldName + Send + Sync, G: Gate, R: Threads + Wait + Sync>(
     requires may { MayRunQueue seats.items collector (map (λ script. script.items) scripts.now) }
     ensures ran { IfOk result (IsQueueRan (map (λ script. script.items) scripts.now) collector) }
     ensures full { IfErr result (IsFaultOf collector.holder.heap) }
+    ensures room { IfOk result (λ ran. record_fragments collector.holder.heap.board < group_fragments * collector.holder.heap.groups) }
 {
-    // What is true of every collector's heap is known from here on.
-    let _ = collector.heap();
-    let mut seats = table_seats::<N>(alloc, seats)?;
-    let refused = open(&mut seats[0])?;
+    let heap = collector.heap();
+    let refused = open::<N>(&mut seats)?;
     if let Some(full) = refused {
         return Err(refuse(rt, alloc, seats, collector, full));
     }
-    let ran = serve_all(rt, alloc, seats, collector, scripts, pace, gate)?;
+    // Where the board has all fragments no node is made. That isn't proved here, and so it is asked.
+    if u32::from(heap.groups) * u32::from(GROUP_FRAGMENTS) <= heap.board_fragments() {
+        return Err(QueueFault::Memory);
+    }
+    let ran = serve_all::<N, G, R>(rt, alloc, seats, collector, scripts, pace, gate)?;
     Ok(ran)
 }
 
@@ -94,6 +99,7 @@ pub fn run_queue<G: Gate, R: Threads + Wait + Sync>(
     requires may { MayRunQueue seats.items collector (map (λ script. script.items) scripts.now) }
     ensures ran { IfOk result (IsQueueRan (map (λ script. script.items) scripts.now) collector) }
     ensures full { IfErr result (IsFaultOf collector.holder.heap) }
+    ensures room { IfOk result (λ ran. record_fragments collector.holder.heap.board < group_fragments * collector.holder.heap.groups) }
 {
     run_named::<Brand, G, R>(rt, alloc, seats, collector, scripts, pace, gate)
 }
