@@ -1,4 +1,4 @@
-//! What the libraries up to space_plan, and heap_queue, answer to their public calls.
+//! What the libraries up to space_plan answer to their public calls.
 
 mod boards;
 mod call_steps;
@@ -12,7 +12,6 @@ mod machine;
 mod merges;
 mod paces;
 mod plans;
-mod queues;
 mod scripts;
 mod streams;
 mod swaps;

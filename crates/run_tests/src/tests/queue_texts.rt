@@ -1,4 +1,4 @@
-//! Texts of queues, and what histories of queues tell.
+//! Texts of queues, and what is told of histories of queues.
 
 use super::comparing::same;
 use heap_model::Heap;

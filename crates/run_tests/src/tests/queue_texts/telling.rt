@@ -1,18 +1,18 @@
 //! What worked histories of queues tell of their puts and takes.
 
 use super::super::comparing::same;
-use super::super::merges::accept;
 use heap_model::Value;
 use heap_queue::{PutReply, TakeReply, Told, ToldCall, tell_calls};
+use log_merge::check;
 use reply_text::read_history;
 use std::alloc::Global;
 use std::test::Fail;
 
-/// What is told of the history that the text is, which a graph accepts.
+/// What is told of the history that the text is, which is legal.
 fn told_of(alloc: Global, text: &str) -> Result<Vec<ToldCall>, Fail> {
     let history = read_history(alloc, text.as_bytes())?;
+    check(alloc, &history)?;
     let entries = history.entries.as_slice();
-    accept(alloc, history.heap, entries)?;
     Ok(tell_calls(alloc, history.heap, entries)?)
 }
 
@@ -55,7 +55,7 @@ const ALONE: &str = "history 2 run\nheap 4 0 1 2\n\
     0 get 14 0 0 = object 0.1 at 0:9\n0 get 13 0 1 = object 0.2 at 0:8\n0 get 12 14 1 = object 0.2 at 0:7\n\
     0 same 14 13 = no\n0 get 11 12 0 = number 6 at 0:6\n0 cas 0 0 14 12 = was 0:9\n0 copy 9 11 = ok\n0 poll = 0\n\
     0 get 14 0 0 = object 0.2 at 0:10\n0 get 13 0 1 = object 0.2 at 0:8\n0 get 12 14 1 = nil at -\n0 poll = 0\n\
-    0 leave = ok\nend used 0\n";
+    0 leave = ok\nend used 1\n";
 
 #[test]
 fn one_seat(rt: HostRuntime) -> Result<(), Fail> {
@@ -83,7 +83,7 @@ const BETWEEN: &str = "history 2 run\nheap 4 0 2 2\n\
     1 same 14 13 = yes\n1 cas 0 1 13 12 = was 0:2\n1 poll = 0\n0 cas 0 1 14 15 = now 1:2\n0 poll = 0\n\
     1 get 14 0 0 = object 0.0 at 0:1\n1 get 13 0 1 = object 0.1 at 1:2\n1 get 12 14 1 = object 0.1 at 0:4\n\
     1 same 14 13 = no\n1 get 11 12 0 = number 5 at 0:3\n1 cas 0 0 14 12 = was 0:1\n1 copy 9 11 = ok\n1 poll = 0\n\
-    0 leave = ok\n1 leave = ok\nend used 0\n";
+    0 leave = ok\n1 leave = ok\nend used 1\n";
 
 /// The stamp of the first seat's fourth set.
 const LINKED: u32 = 0x400_0004;
@@ -105,7 +105,7 @@ fn two_seats(rt: HostRuntime) -> Result<(), Fail> {
 
 // The first seat gets no first node.
 const UNMADE: &str =
-    "history 2 run\nheap 1 0 1 47\n0 new 15 2 = full need 1 found 0\n0 leave = ok\nend used 0\n";
+    "history 2 run\nheap 1 0 1 47\n0 new 15 2 = full need 1 found 0\n0 leave = ok\nend used 16\n";
 
 #[test]
 fn no_queue(rt: HostRuntime) -> Result<(), Fail> {
