@@ -58,11 +58,12 @@ poll_tells_none : (held : ℕ → Value) (number : ℕ) (log : List Entry) → I
 poll_tells_none held number log (p, inl polled) = ap (told_along held Rests) polled
 poll_tells_none held number log (p, inr polled) = ap (told_along held Rests) polled
 
--- logs that a seat serves one after another from where it rests
-module _ (held : ℕ → Value) (place : Place) (log one more : List Entry) (log_is : log ≡ one ++ more) (rests : place_after place one ≡ Rests) where
-  tells_both : told_along held place log ≡ told_along held place one ++ told_along (held_behind held one) Rests more
-  tells_both = ap (told_along held place) log_is ∙ told_then held place one more ∙ ap (λ (p : Place). told_along held place one ++ told_along (held_behind held one) p more) rests
+-- what two logs tell of which the first leads to where the seat rests
+tells_both : (held : ℕ → Value) (place : Place) (log one more : List Entry) → log ≡ one ++ more → place_after place one ≡ Rests → told_along held place log ≡ told_along held place one ++ told_along (held_behind held one) Rests more
+tells_both held place log one more log_is rests =
+    ap (told_along held place) log_is ∙ told_then held place one more ∙ ap (λ (p : Place). told_along held place one ++ told_along (held_behind held one) p more) rests
 
+-- a command of a script
 command_tells : (held : ℕ → Value) (number : ℕ) (command : QueueCommand) (call : Call) (log : List Entry) → ServesBy number command call log → TellsCommand command call (told_along held Rests log)
 command_tells held number command call log serves =
     let one = answer_tells held number command call serves.answering serves.answered in
