@@ -1,5 +1,5 @@
 -- The seats of a run once the first of them has made the queue, or was refused its first node.
-use Rattle.std.proofs.Common.{◌≡◌, ℕ, zero, suc, ◌+◌, ◌*◌, ◌<◌, ◌≤◌, inl, inr, cond, List, [], ◌∷◌, length, map, get_or, Option, Some, None, refl, sym, ap, ◌∙◌, subst, arith}
+use Rattle.std.proofs.Common.{◌≡◌, ℕ, zero, suc, ◌<◌, ◌≤◌, inl, inr, cond, List, [], ◌∷◌, length, map, get_or, Option, Some, None, refl, sym, ap, ◌∙◌, subst, arith}
 use Rattle.std.specs.Prelude.{All, slice_set}
 use Rattle.std.specs.List.{range_with_len}
 use Rattle.std.proofs.lemmas.Bool.Decides.{eqb_tells}
@@ -20,7 +20,7 @@ use Rattle.heap_queue.specs.Opening.{HasOpened, OpensFirst, AreRefused}
 use Rattle.heap_queue.specs.Places.{MakesNode, Rests, Waits}
 use Rattle.heap_queue.specs.Running.{IsQueueScript, IsUntouched, script_at}
 use Rattle.heap_queue.specs.Serving.{HasBegun}
-use Rattle.heap_queue.specs.Working.{MayServe, IsReadyToServe}
+use Rattle.heap_queue.specs.Working.{IsReadyToServe}
 use Rattle.heap_queue.proofs.ClosedLogs.{as_many, number_is_place}
 use Rattle.heap_queue.proofs.FirstSeat.{fresh}
 use Rattle.heap_queue.proofs.ServingLogs.{leads_nowhere}

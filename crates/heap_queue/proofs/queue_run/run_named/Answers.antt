@@ -1,4 +1,4 @@
-use Rattle.std.proofs.Common.{◌≤◌, List, Vec, Global, map, sym, ap, subst, ◌∙◌, arith}
+use Rattle.std.proofs.Common.{◌≤◌, List, Vec, Global, map, sym, ap, subst, arith}
 use Rattle.std.specs.Prelude.{All}
 use Rattle.atomic_table.specs.Seated.{TableId}
 use Rattle.heap_model.specs.declared.heap.Heap.{Heap}
