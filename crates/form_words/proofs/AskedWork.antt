@@ -10,7 +10,7 @@ use Rattle.form_words.specs.declared.pace.PaceName.{PaceName}
 use Rattle.form_words.specs.declared.pace.PaceName.TheVariants.{Steady}
 use Rattle.form_words.specs.declared.setting.Settings.{Settings}
 use Rattle.form_words.specs.declared.work.Work.{Work}
-use Rattle.form_words.specs.declared.work.Work.TheVariants.{Play, Run, Check, Plan, Make, Migrate, Crew}
+use Rattle.form_words.specs.declared.work.Work.TheVariants.{Play, Run, Check, Plan, Make, Migrate, Crew, Queue}
 use Rattle.form_words.specs.Settings.{most_patience}
 use Rattle.form_words.specs.Works.{form_word, usual_patience, AskFor, Completes, IsRunSettings, IsWork}
 use Rattle.form_words.proofs.GivenSettings.{digits_value-decimal, given_patience_in_range, settings_of, settings_of-given}
@@ -49,6 +49,7 @@ works_by_form rest =
     ∷ (codes "make", make_by rest)
     ∷ (codes "migrate", migrate_by rest)
     ∷ (codes "crew", crew_by rest)
+    ∷ (codes "queue", Queue)
     ∷ []
 
 -- the work that words ask for if they ask for any
@@ -74,6 +75,7 @@ work_of-asked words work asked = ap work_of asked.begins ∙ by asked.rest work 
   by rest (Run pace locked patience) (settings, gives, is) = ap (λ (s : Settings). Some (run_by s)) (settings_of-given rest settings gives) ∙ ap Some (run_by-settings pace locked patience settings is)
   by rest Check none = refl
   by rest Plan none = refl
+  by rest Queue none = refl
   by rest (Migrate Script) spelled = ap (λ (words : List (List ℕ)). Some (migrate_by words)) spelled
   by rest (Migrate History) spelled = ap (λ (words : List (List ℕ)). Some (migrate_by words)) spelled
   by rest (Crew false) spelled = ap (λ (words : List (List ℕ)). Some (crew_by words)) spelled
@@ -93,6 +95,7 @@ pub completed_work_is_in_range : (rest : List (List ℕ)) (work : Work) → Comp
 completed_work_is_in_range rest (Play pace brief press) gives = tt
 completed_work_is_in_range rest Check none = tt
 completed_work_is_in_range rest Plan none = tt
+completed_work_is_in_range rest Queue none = tt
 completed_work_is_in_range rest (Migrate kind) spelled = tt
 completed_work_is_in_range rest (Crew history) spelled = tt
 completed_work_is_in_range rest (Make start seats lines) made = made.0

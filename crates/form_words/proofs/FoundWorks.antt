@@ -10,7 +10,7 @@ use Rattle.form_words.specs.declared.pace.PaceName.{PaceName}
 use Rattle.form_words.specs.declared.pace.PaceName.TheVariants.{Steady}
 use Rattle.form_words.specs.declared.setting.Settings.{Settings}
 use Rattle.form_words.specs.declared.work.Work.{Work}
-use Rattle.form_words.specs.declared.work.Work.TheVariants.{Play, Run, Check, Plan, Make, Migrate, Crew}
+use Rattle.form_words.specs.declared.work.Work.TheVariants.{Play, Run, Check, Plan, Make, Migrate, Crew, Queue}
 use Rattle.form_words.specs.Settings.{GiveSettings, no_settings}
 use Rattle.form_words.specs.Works.{Completes, form_word, usual_patience}
 use Rattle.form_words.proofs.GivenSettings.{given_patience_in_range}
@@ -50,6 +50,7 @@ make_completes words Check takes finds = absurd finds
 make_completes words Plan takes finds = absurd finds
 make_completes words (Migrate kind) takes finds = absurd finds
 make_completes words (Crew history) takes finds = absurd finds
+make_completes words Queue takes finds = absurd finds
 
 -- a making that words complete is found
 pub record IsMakingFound (words : List Text) (work : Work) : Type 0 where

@@ -9,7 +9,7 @@ use Rattle.form_words.specs.declared.pace.PaceName.{PaceName}
 use Rattle.form_words.specs.declared.pace.PaceName.TheVariants.{Steady}
 use Rattle.form_words.specs.declared.setting.Settings.{Settings}
 use Rattle.form_words.specs.declared.work.Work.{Work}
-use Rattle.form_words.specs.declared.work.Work.TheVariants.{Play, Run, Check, Plan, Make, Migrate, Crew}
+use Rattle.form_words.specs.declared.work.Work.TheVariants.{Play, Run, Check, Plan, Make, Migrate, Crew, Queue}
 use Rattle.form_words.specs.Settings.{no_settings, most_patience, GiveSettings}
 
 -- the word with which a form begins
@@ -21,6 +21,7 @@ form_word Plan = codes "plan"
 form_word (Make start seats lines) = codes "make"
 form_word (Migrate kind) = codes "migrate"
 form_word (Crew history) = codes "crew"
+form_word Queue = codes "queue"
 
 -- the word that names a kind of text
 abbrev pub kind_word : TextKind → List ℕ
@@ -62,6 +63,7 @@ Completes rest Plan = rest ≡ []
 Completes rest (Make start seats lines) = MayBeMade start seats lines × (rest ≡ decimal start ∷ decimal seats ∷ decimal lines ∷ [])
 Completes rest (Migrate kind) = rest ≡ kind_word kind ∷ []
 Completes rest (Crew history) = rest ≡ history_words history
+Completes rest Queue = rest ≡ []
 
 -- the words after the program's name ask for the work
 pub record AskFor (words : List (List ℕ)) (work : Work) : Type 0 where
@@ -78,7 +80,7 @@ abbrev pub HasInput : Work → Type 0
 HasInput (Make start seats lines) = ⊥
 HasInput work = Unit {0}
 
--- the most bytes of a script, or of a crew's text
+-- the most bytes of a script, or of a crew's or a queue's text
 abbrev pub most_script : ℕ
 most_script = 1048576
 
@@ -100,3 +102,4 @@ most_bytes Plan = most_history
 most_bytes (Make start seats lines) = 0
 most_bytes (Migrate kind) = most_migrated kind
 most_bytes (Crew history) = most_script
+most_bytes Queue = most_script

@@ -19,7 +19,7 @@ use heap_model::limits::MOST_SEATS;
 use script_text::{MOST_MADE_LINES, MOST_START};
 use std::alloc::Global;
 
-/// The most bytes of a script that is played or run, and of a crew's text.
+/// The most bytes of a script that is played or run, and of a crew's or a queue's text.
 pub const MOST_SCRIPT: usize = 1_048_576;
 
 /// The most bytes of a history that is checked, or by which space is planned.
@@ -66,6 +66,8 @@ pub enum Work {
     Crew {
         history: bool,
     },
+    /// Runs the puts and takes of a queue's text on its seats, and tells what each came to.
+    Queue,
 }
 
 /// The settings that the command finds in the words, where it takes them and each value is one.
@@ -202,6 +204,7 @@ impl Work {
             "make" => make_of(alloc, rest),
             "migrate" => Ok(migrate_of(rest)),
             "crew" => Ok(crew_of(rest)),
+            "queue" => Ok(alone(Work::Queue, rest)),
             _ => Ok(None),
         }
     }
@@ -212,7 +215,9 @@ impl Work {
         ensures none { IfNone result (¬ HasInput self) }
     {
         match self {
-            Work::Play { .. } | Work::Run { .. } | Work::Crew { .. } => Some(MOST_SCRIPT),
+            Work::Play { .. } | Work::Run { .. } | Work::Crew { .. } | Work::Queue => {
+                Some(MOST_SCRIPT)
+            }
             Work::Check | Work::Plan => Some(MOST_HISTORY),
             Work::Make { .. } => None,
             Work::Migrate(TextKind::Script) => Some(MOST_MIGRATED_SCRIPT),

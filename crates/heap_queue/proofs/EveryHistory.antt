@@ -81,13 +81,13 @@ boarded : (heap : Heap) (g : Graph) (s : ℕ) → IsReached heap g → (graph_se
 boarded heap g s reached present = subst (λ (x : Graph). (graph_seat x s).left ≡ false → register_value x s 0 ≡ Object Board) reached.is (first_register_holds_board heap reached.history s reached.legal) present
 
 -- where the seats stand after a reply
-moved_here : (place : Places) (s : ℕ) (command : Command) (reply : Reply) → moved place (Said s command reply) s ≡ after (place s) command reply
+pub moved_here : (place : Places) (s : ℕ) (command : Command) (reply : Reply) → moved place (Said s command reply) s ≡ after (place s) command reply
 moved_here place s command reply = elim (eqb_tells s s) as (λ _. moved place (Said s command reply) s ≡ after (place s) command reply) [
   | inl same ↦ ap (λ (b : Bool). cond b (after (place s) command reply) (place s)) same.0
   | inr other ↦ absurd (other.1 refl)
 ]
 
-moved_other : (place : Places) (s : ℕ) (command : Command) (reply : Reply) (t : ℕ) → t ≢ s → moved place (Said s command reply) t ≡ place t
+pub moved_other : (place : Places) (s : ℕ) (command : Command) (reply : Reply) (t : ℕ) → t ≢ s → moved place (Said s command reply) t ≡ place t
 moved_other place s command reply t apart = elim (eqb_tells t s) as (λ _. moved place (Said s command reply) t ≡ place t) [
   | inl same ↦ absurd (apart same.1)
   | inr other ↦ ap (λ (b : Bool). cond b (after (place s) command reply) (place t)) other.0
@@ -118,7 +118,7 @@ logs_said place s command reply history logs t = elim (cases_eq t s) as (λ _. I
 ]
 
 -- the entry is no reply to a seat
-abbrev IsNoReply : Entry → Type 0
+abbrev pub IsNoReply : Entry → Type 0
 IsNoReply (Said s command reply) = ⊥
 IsNoReply entry = Unit {0}
 

@@ -11,6 +11,7 @@ pub mod Linking
 pub mod MakeMoves
 pub mod Moves
 pub mod NoneTaken
+pub mod OpenedQueue
 pub mod OpenedSeats
 pub mod Others
 pub mod PutCalls
@@ -18,6 +19,10 @@ pub mod PutMoves
 pub mod QueueLaws
 pub mod QueueTexts
 pub mod RefusedSeats
+pub mod ScriptLines
+pub mod SeatRegisters
+pub mod SeatTelling
+pub mod SeatsTold
 pub mod ServedSeats
 pub mod ServingLogs
 pub mod ServingParts
@@ -25,5 +30,9 @@ pub mod ServingSteps
 pub mod StageLists
 pub mod TakeMoves
 pub mod TellingSteps
+pub mod ToldCalls
+pub mod ToldLogs
+pub mod ToldRuns
 pub mod Views
 pub mod WholeCalls
+pub mod WrittenLines

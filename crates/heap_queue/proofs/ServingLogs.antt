@@ -44,13 +44,13 @@ over_rests Take (TakeCall reply) is = refl
 over_rests Take call is = absurd is
 
 -- a command of a script leads from where the seat rests to where it rests, by its one call
-answered_rests : (number : ℕ) (command : QueueCommand) (call : Call) (log : List Entry) → AnswersBy number command call log → Leads Rests log Rests (call ∷ [])
+pub answered_rests : (number : ℕ) (command : QueueCommand) (call : Call) (log : List Entry) → AnswersBy number command call log → Leads Rests log Rests (call ∷ [])
 answered_rests number command call log answers =
     subst (λ (l : List Entry). Leads Rests l Rests (call ∷ [])) (sym answers.log_is)
     (leads_on Rests Rests Rests (sets_number number command) answers.calling [] (call ∷ []) (set_rests number command)
     (subst (λ (p : Place). Leads Rests answers.calling p (call ∷ [])) (over_rests command call answers.asked) (whole_leads Rests answers.calling call answers.whole)))
 
-served_rests : (number : ℕ) (command : QueueCommand) (call : Call) (log : List Entry) → ServesBy number command call log → Leads Rests log Rests (call ∷ [])
+pub served_rests : (number : ℕ) (command : QueueCommand) (call : Call) (log : List Entry) → ServesBy number command call log → Leads Rests log Rests (call ∷ [])
 served_rests number command call log serves =
     subst (λ (l : List Entry). Leads Rests l Rests (call ∷ [])) (sym serves.log_is)
     (leads_on Rests Rests Rests serves.answering serves.polling (call ∷ []) [] (answered_rests number command call serves.answering serves.answered) (polled_rests number serves.polling serves.polled))

@@ -21,7 +21,7 @@ step_is_due Rests command step = inr step
 step_is_due place command step = step
 
 -- the call that a reply ends is the one that is said
-ended_is : (one call : Call) → Some one ≡ Some call → one ≡ call
+pub ended_is : (one call : Call) → Some one ≡ Some call → one ≡ call
 ended_is one call same = cc
 
 refused_is : (one call : Call) (reply : Reply) → if_refused one reply ≡ Some call → one ≡ call

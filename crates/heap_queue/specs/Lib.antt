@@ -6,12 +6,16 @@ pub mod Laws
 pub mod Leaving
 pub mod Opening
 pub mod Places
+pub mod QueueLines
 pub mod QueueText
+pub mod RunText
 pub mod Running
+pub mod SeatScripts
 pub mod Served
 pub mod Serving
 pub mod Stages
 pub mod Tasks
 pub mod TellerState
 pub mod Telling
+pub mod ToldBySeat
 pub mod Working

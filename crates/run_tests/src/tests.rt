@@ -1,4 +1,4 @@
-//! Plays, runs on a shared table, and crews, by the public calls of heap_runs and script_crew.
+//! Plays, runs on a shared table, crews, and texts of queues, by the public calls of heap_runs, script_crew and heap_queue.
 
 ghost use Rattle.std.specs.Prelude.{◌≡◌, ◌<◌, [], IfOk};
 ghost use Rattle.script_text.specs.declared.script.Form.TheVariants.{Play};
@@ -21,6 +21,7 @@ mod one_table;
 mod orders;
 mod pacing;
 mod pressed;
+mod queue_texts;
 mod seat_runs;
 
 /// The script that the text is.

@@ -2,7 +2,7 @@
 use Rattle.std.proofs.Common.{ℕ, List, Option}
 use Rattle.io_edge.specs.Left.{LosesUpTo}
 use Rattle.form_words.specs.declared.work.Work.{Work}
-use Rattle.form_words.specs.declared.work.Work.TheVariants.{Play, Run, Check, Plan, Make, Migrate, Crew}
+use Rattle.form_words.specs.declared.work.Work.TheVariants.{Play, Run, Check, Plan, Make, Migrate, Crew, Queue}
 use Rattle.form_words.specs.Works.{most_bytes, HasInput}
 use Rattle.schism_program.specs.Outcome.{IsReadUpTo}
 
@@ -15,3 +15,4 @@ work_reads_up_to_limit Plan left left' reads lost = lost
 work_reads_up_to_limit (Make start seats lines) left left' reads lost = absurd reads
 work_reads_up_to_limit (Migrate kind) left left' reads lost = lost
 work_reads_up_to_limit (Crew history) left left' reads lost = lost
+work_reads_up_to_limit Queue left left' reads lost = lost

@@ -6,4 +6,5 @@ pub mod RunTexts
 pub mod Inputs
 pub mod MergedLogs
 pub mod CrewRuns
+pub mod QueueRuns
 pub mod TableRuns

@@ -2,7 +2,7 @@
 use Rattle.std.proofs.Common.{◌≡◌, ℕ, List, Option, Some, inl, inr, refl, sym, ap, subst, ◌∙◌, arith}
 use Rattle.form_words.specs.declared.kind.TextKind.TheVariants.{Script, History}
 use Rattle.form_words.specs.declared.work.Work.{Work}
-use Rattle.form_words.specs.declared.work.Work.TheVariants.{Play, Run, Check, Plan, Make, Migrate, Crew}
+use Rattle.form_words.specs.declared.work.Work.TheVariants.{Play, Run, Check, Plan, Make, Migrate, Crew, Queue}
 use Rattle.form_words.specs.Works.{AskFor}
 use Rattle.form_words.proofs.AskedWork.{asked_work_is_one}
 use Rattle.script_text.specs.declared.cause.Cause.{Cause}
@@ -17,6 +17,7 @@ use Rattle.log_merge.specs.Legal.{IsLegalHistory}
 use Rattle.log_merge.specs.Lines.{IsFirstIllegal}
 use Rattle.log_merge.proofs.Migrated.{first_wrong_line_is_one}
 use Rattle.script_crew.proofs.CrewTexts.{first_crew_fault-none}
+use Rattle.heap_queue.proofs.QueueTexts.{first_queue_fault-none}
 use Rattle.schism_program.specs.declared.status.Status.{Status}
 use Rattle.schism_program.specs.declared.status.Status.TheVariants.{Done, Refused, Usage, TooLong, NotLegal}
 use Rattle.schism_program.specs.Due.{IsDue, IsDueTo, IsInput}
@@ -35,6 +36,7 @@ made_input_suits_work (Make start seats lines) input text made = tt
 made_input_suits_work (Migrate Script) input text migrates = (migrates.script, migrates.spelled)
 made_input_suits_work (Migrate History) input text migrates = (migrates.history, migrates.spelled)
 made_input_suits_work (Crew history) input text (closed, runs) = (runs.crew, runs.spelled)
+made_input_suits_work Queue input text (closed, runs) = (runs.script, runs.spelled)
 
 -- a history of a play has no fault, and isn't one of a run
 play_none : (input : List ℕ) (history : AHistory) (line : ℕ) (cause : Cause) → IsHistory input history → history.form ≡ forms.Play → ¬ FailsAsPlay input line cause
@@ -51,6 +53,7 @@ suits_none (Make start seats lines) input line cause suits fault = fault
 suits_none (Migrate Script) input line cause (script, spelled) fault = let none = first_fault-none forms.Play input script spelled in cc
 suits_none (Migrate History) input line cause (history, spelled) fault = let none = first_history_fault-none input history spelled in cc
 suits_none (Crew history) input line cause (crew, spelled) fault = let none = first_crew_fault-none input crew spelled in cc
+suits_none Queue input line cause (script, spelled) fault = let none = first_queue_fault-none input script spelled in cc
 
 -- a legal history has no line that isn't
 never_both : (input : List ℕ) (line : ℕ) (history : AHistory) → IsHistory input history → IsLegalHistory history → ¬ FindsIllegal input line
@@ -63,6 +66,7 @@ suits_legal (Run pace locked patience) input line suits illegal = illegal
 suits_legal (Make start seats lines) input line suits illegal = illegal
 suits_legal (Migrate kind) input line suits illegal = illegal
 suits_legal (Crew history) input line suits illegal = illegal
+suits_legal Queue input line suits illegal = illegal
 suits_legal Check input line (history, spelled, legal) illegal = never_both input line history spelled legal illegal
 suits_legal Plan input line is illegal = never_both input line is.history is.spelled is.legal illegal.finds
 
@@ -73,6 +77,7 @@ illegal_none (Run pace locked patience) input line number cause illegal fault = 
 illegal_none (Make start seats lines) input line number cause illegal fault = illegal
 illegal_none (Migrate kind) input line number cause illegal fault = illegal
 illegal_none (Crew history) input line number cause illegal fault = illegal
+illegal_none Queue input line number cause illegal fault = illegal
 illegal_none Check input line number cause illegal fault = let none = first_history_fault-none input illegal.history illegal.spelled in cc
 illegal_none Plan input line number cause illegal fault = play_none input illegal.finds.history number cause illegal.finds.spelled illegal.play fault
 
@@ -94,6 +99,7 @@ fails_once (Make start seats lines) input line line' cause cause' fault fault' =
 fails_once (Migrate Script) input line line' cause cause' fault fault' = same_fault line line' cause cause' (sym fault ∙ fault')
 fails_once (Migrate History) input line line' cause cause' fault fault' = same_fault line line' cause cause' (sym fault ∙ fault')
 fails_once (Crew history) input line line' cause cause' fault fault' = same_fault line line' cause cause' (sym fault ∙ fault')
+fails_once Queue input line line' cause cause' fault fault' = same_fault line line' cause cause' (sym fault ∙ fault')
 
 -- one line of a history is the first that isn't legal
 first_illegal_once : (input : List ℕ) (line line' : ℕ) → FindsIllegal input line → FindsIllegal input line' → line ≡ line'
@@ -108,6 +114,7 @@ illegal_once (Run pace locked patience) input line line' illegal illegal' = absu
 illegal_once (Make start seats lines) input line line' illegal illegal' = absurd illegal
 illegal_once (Migrate kind) input line line' illegal illegal' = absurd illegal
 illegal_once (Crew history) input line line' illegal illegal' = absurd illegal
+illegal_once Queue input line line' illegal illegal' = absurd illegal
 illegal_once Check input line line' illegal illegal' = first_illegal_once input line line' illegal illegal'
 illegal_once Plan input line line' illegal illegal' = first_illegal_once input line line' illegal.finds illegal'.finds
 
@@ -143,6 +150,7 @@ same_input Plan left left' input input' all its = let gives : GivesAll (Some inp
 same_input Check left left' input input' all its = let gives : GivesAll (Some input') left' input = subst (λ (l : Option (List ℕ)). GivesAll l left' input) its all in gives.0
 same_input (Make start seats lines) left left' input input' all its = all.0 ∙ sym its
 same_input (Migrate kind) left left' input input' all its = let gives : GivesAll (Some input') left' input = subst (λ (l : Option (List ℕ)). GivesAll l left' input) its all in gives.0
+same_input Queue left left' input input' all its = let gives : GivesAll (Some input') left' input = subst (λ (l : Option (List ℕ)). GivesAll l left' input) its all in gives.0
 same_input (Crew history) left left' input input' all its = let gives : GivesAll (Some input') left' input = subst (λ (l : Option (List ℕ)). GivesAll l left' input) its all in gives.0
 
 -- so where its input was read, and it calls for this status, no other is due

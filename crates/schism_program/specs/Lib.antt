@@ -5,6 +5,7 @@ pub mod Verdict
 pub mod Planning
 pub mod Migrating
 pub mod Crewing
+pub mod Queuing
 pub mod WorkFaults
 pub mod Works
 pub mod Outcome

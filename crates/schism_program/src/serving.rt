@@ -17,6 +17,7 @@ use crate::made::Made;
 use crate::making::made_script_text;
 use crate::migrating::migrated_text;
 use crate::planning::plan_text;
+use crate::queuing::run_queue_text;
 use crate::running::run_text;
 use crate::table_run::run_on_table;
 use crate::verdict::verdict;
@@ -193,5 +194,6 @@ pub fn made_work<G: Gate, R: Threads + Wait + Sync>(
             Ok(text_alone(text))
         }
         Work::Crew { history } => run_crew_text(rt, alloc, &input, history, paces.steady, gate),
+        Work::Queue => run_queue_text(rt, alloc, &input, paces.steady, gate),
     }
 }

@@ -13,6 +13,7 @@ mod histories;
 mod judged;
 mod limits;
 mod migrations;
+mod queues;
 mod runs;
 mod scripts;
 mod several_seats;

@@ -7,7 +7,7 @@ use std::alloc::Global;
 use std::test::Fail;
 
 /// Words that are no form, each with one space between two.
-const NO_FORMS: [&str; 65] = [
+const NO_FORMS: [&str; 68] = [
     "plays",
     "Check",
     "play extra",
@@ -70,6 +70,9 @@ const NO_FORMS: [&str; 65] = [
     "migrate -- script",
     "script migrate",
     "crews",
+    "queues",
+    "queue 1",
+    "queue --history",
     "crew history",
     "crew --history --history",
     "crew --history 0",
@@ -188,6 +191,13 @@ fn asks_for_the_work_of_a_form(rt: HostRuntime) -> Result<(), Fail> {
         same(&rt, &asked(alloc, line), &Ok(Some(work)), &line);
         same(&rt, &work.most_bytes(), &Some(1_048_576), &line);
     }
+    same(
+        &rt,
+        &asked(alloc, "queue"),
+        &Ok(Some(Work::Queue)),
+        &"queue",
+    );
+    same(&rt, &Work::Queue.most_bytes(), &Some(1_048_576), &"queue");
     for (line, kind, most) in MIGRATIONS {
         let work = Work::Migrate(kind);
         same(&rt, &asked(alloc, line), &Ok(Some(work)), &line);

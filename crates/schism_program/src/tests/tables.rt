@@ -11,9 +11,9 @@ use std::sync::Wait;
 use std::test::Fail;
 use std::thread::Threads;
 
-/// Lines of words, one after another, the text that each is given, and whether a table is left: only a run without the lock that is done leaves one, and a crew that had a job or whose
-/// history was asked for; the next work takes away what the one before has left.
-const WORKS: [(&str, &str, bool); 13] = [
+/// Lines of words, one after another, the text that each is given, and whether a table is left: only a run without the lock that is done leaves one, a crew that had a job or whose
+/// history was asked for, and a queue for which there was room; the next work takes away what the one before has left.
+const WORKS: [(&str, &str, bool); 15] = [
     ("run", "schism 1\nheap 1 0 1\n0 new 1 2\n", true),
     ("run --locked", "schism 1\nheap 1 0 1\n0 new 1 2\n", false),
     ("run --patience 3", "schism 1\nheap 1 0 2\n1 poll\n", true),
@@ -26,6 +26,8 @@ const WORKS: [(&str, &str, bool); 13] = [
     ("crew", "crew 1\nheap 1 0 2 3\n4 poll\n", true),
     ("crew", "crew 1\nheap 1 0 2 3\n", false),
     ("crew --history", "crew 1\nheap 1 0 2 3\n", true),
+    ("queue", "queue 1\nheap 1 0 2 3\n1 take\n", true),
+    ("queue", "queue 1\nheap 1 0 1 47\n", false),
     ("run again", "schism 1\nheap 1 0 1\n", false),
 ];
 
