@@ -32,7 +32,7 @@ log_there heap seats last history many same k d below =
     let part : ℕ → List Entry = λ number. log_of number history in
     let there : get_or (logs_of heap history) k [] ≡ log_of k history
     = get_or_append_left (map part (range_with_len 0 heap.seats)) (filter is_collectors history ∷ []) [] k (omega (arith, length-map-range_with_len part 0 heap.seats, below))
-        ∙ get_or-map-range_with_len part 0 heap.seats k k [] below (omega arith) in
+    ∙ get_or-map-range_with_len part 0 heap.seats k k [] below (omega arith) in
     let here : get_or (map mine seats ++ last ∷ []) k [] ≡ (get_or seats k d).seat.mine
     = get_or_append_left (map mine seats) (last ∷ []) [] k (omega (arith, length-map seats mine, many, below)) ∙ get_or-map mine seats k d [] (omega (arith, many, below)) in
     sym there ∙ (ap (λ (ls : List (List Entry)). get_or ls k []) (sym same) ∙ here)

@@ -1,5 +1,5 @@
 -- What the first seat tells as it makes the queue, or is refused its first node.
-use Rattle.std.proofs.Common.{◌≡◌, ℕ, ◌+◌, ◌<◌, ◌≤◌, inl, inr, List, [], ◌∷◌, ◌++◌, length, replicate, get_or, false, Option, Some, None, refl, sym, ap, ◌∙◌, subst, arith}
+use Rattle.std.proofs.Common.{◌≡◌, ℕ, inl, inr, List, [], ◌∷◌, ◌++◌, length, replicate, get_or, false, Option, Some, None, sym, ap, ◌∙◌, subst, arith}
 use Rattle.std.proofs.lemmas.Bool.{cases_lt}
 use Rattle.std.proofs.lemmas.List.{get_or-replicate, get_or_past, length-replicate}
 use Rattle.heap_model.specs.account.Space.{spent_of, taken_of}
@@ -20,7 +20,7 @@ use Rattle.mutator_seat.specs.Resting.{seat_state}
 use Rattle.heap_queue.specs.Calls.{Call, QueueMade, MakeRefused, ends, IsWhole}
 use Rattle.heap_queue.specs.Grows.{Completes, Spends}
 use Rattle.heap_queue.specs.Opening.{OpensBy, HasOpened}
-use Rattle.heap_queue.specs.Places.{MakesNode, SetsFirst, SetsLast, Gone, IsStep, after}
+use Rattle.heap_queue.specs.Places.{MakesNode, SetsFirst, SetsLast, Gone, after}
 use Rattle.heap_queue.specs.Serving.{HasBegun}
 use Rattle.heap_queue.proofs.WholeCalls.{whole_leads}
 

@@ -1,5 +1,5 @@
 -- Where no seat has taken a fragment and one was refused the first one, the board has all fragments of the heap.
-use Rattle.std.proofs.Common.{◌≡◌, ℕ, ◌+◌, ◌*◌, ◌<◌, ◌≤◌, ◌==◌, Bool, true, false, cond, inl, inr, List, [], ◌∷◌, ◌++◌, length, filter, refl, sym, ap, ◌∙◌, subst, append_assoc, append-nil, arith}
+use Rattle.std.proofs.Common.{◌≡◌, ℕ, ◌*◌, ◌≤◌, Bool, true, false, cond, inl, inr, List, [], ◌∷◌, ◌++◌, filter, refl, sym, ap, ◌∙◌, subst, append_assoc, append-nil, arith}
 use Rattle.std.proofs.lemmas.Bool.{cases_Bool, eq-eqb, eqb-true}
 use Rattle.std.proofs.lemmas.List.Sums.{sum_by-append, sum_by-cons}
 use Rattle.heap_model.specs.Heap.{IsHeap}
@@ -8,9 +8,9 @@ use Rattle.heap_model.specs.Logs.{log_of}
 use Rattle.heap_model.specs.Needs.{record_fragments}
 use Rattle.heap_model.specs.account.Account.{IsLegal, KeepsSpace, KeepsSpaceAfter}
 use Rattle.heap_model.specs.account.Effects.{effect_of, is_of}
-use Rattle.heap_model.specs.account.Space.{total, total_of, total_but, taken_of, spent_of, fragments_gained, fragments_lost}
-use Rattle.heap_model.specs.account.Refusals.{FindsSpace, given_up}
-use Rattle.heap_model.specs.account.Windows.{since_reply, up_to_reply}
+use Rattle.heap_model.specs.account.Space.{total, total_of, taken_of, spent_of}
+use Rattle.heap_model.specs.account.Refusals.{FindsSpace}
+use Rattle.heap_model.specs.account.Windows.{since_reply}
 use Rattle.heap_model.specs.declared.account.effect.Effect.{Effect}
 use Rattle.heap_model.specs.declared.command.Command.TheVariants.{New}
 use Rattle.heap_model.specs.declared.entry.Entry.{Entry}

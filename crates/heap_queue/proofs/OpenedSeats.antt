@@ -1,7 +1,8 @@
 -- The seats of a run once the first of them has made the queue, or was refused its first node.
-use Rattle.std.proofs.Common.{◌≡◌, ℕ, zero, suc, ◌+◌, ◌*◌, ◌<◌, ◌≤◌, List, [], ◌∷◌, length, map, get_or, Some, None, refl, sym, ap, ◌∙◌, subst, arith}
+use Rattle.std.proofs.Common.{◌≡◌, ℕ, zero, suc, ◌<◌, ◌≤◌, inl, inr, cond, List, [], ◌∷◌, length, map, get_or, Option, Some, None, refl, sym, ap, ◌∙◌, subst, arith}
 use Rattle.std.specs.Prelude.{All, slice_set}
 use Rattle.std.specs.List.{range_with_len}
+use Rattle.std.proofs.lemmas.Bool.Decides.{eqb_tells}
 use Rattle.std.proofs.lemmas.List.Elements.{All-cons, All-tail, All-weaker}
 use Rattle.atomic_table.specs.Seated.{TableId}
 use Rattle.heap_model.specs.account.Space.{taken_of}
@@ -13,21 +14,26 @@ use Rattle.mutator_seat.specs.Resting.{seat_state}
 use Rattle.heap_runs.specs.CollectCall.{IsPresent}
 use Rattle.heap_runs.specs.SeatWork.{IsOfTable, objects_of, sets_of}
 use Rattle.heap_queue.specs.declared.queue_command.QueueCommand.{QueueCommand}
-use Rattle.heap_queue.specs.Effects.{start}
+use Rattle.heap_queue.specs.Calls.{QueueMade}
 use Rattle.heap_queue.specs.Histories.{Leads}
-use Rattle.heap_queue.specs.Opening.{HasOpened, AreRefused}
-use Rattle.heap_queue.specs.Places.{Waits}
+use Rattle.heap_queue.specs.Opening.{HasOpened, OpensFirst, AreRefused}
+use Rattle.heap_queue.specs.Places.{MakesNode, Rests, Waits}
 use Rattle.heap_queue.specs.Running.{IsQueueScript, IsUntouched, script_at}
-use Rattle.heap_queue.specs.Serving.{begin_place, first_calls, HasBegun}
-use Rattle.heap_queue.specs.Working.{MayServe, IsReadyToServe}
+use Rattle.heap_queue.specs.Serving.{HasBegun}
+use Rattle.heap_queue.specs.Working.{IsReadyToServe}
 use Rattle.heap_queue.proofs.ClosedLogs.{as_many, number_is_place}
 use Rattle.heap_queue.proofs.FirstSeat.{fresh}
 use Rattle.heap_queue.proofs.ServingLogs.{leads_nowhere}
 
 -- another seat than the first has begun where it has told nothing
+none_told : (number k : ℕ) → number ≡ suc k → HasBegun number []
+none_told number k is = elim (eqb_tells number 0) [
+  | inl same ↦ absurd (omega (arith, same.1, is))
+  | inr apart ↦ subst (λ first. Leads (cond first MakesNode Waits) [] (cond first Rests Waits) (cond first (QueueMade ∷ []) [])) (sym apart.0) (leads_nowhere Waits)
+]
+
 waits : (number k : ℕ) (log : List Entry) → number ≡ suc k → log ≡ [] → HasBegun number log
-waits number k log is silent =
-    subst (λ (l : List Entry). HasBegun number l) (sym silent) (subst (λ (n : ℕ). Leads (start 0 n) [] (begin_place n) (first_calls n)) (sym is) (leads_nowhere Waits))
+waits number k log is silent = subst (HasBegun number) (sym silent) (none_told number k is)
 
 module _ (table : TableId) (heap : Heap) (n : ℕ) (first : SeatHeld) (of_table : IsOfTable table heap first) where
   -- the first of these seats stands in the place of the one that was there
@@ -93,3 +99,28 @@ module _ (table : TableId) (heap : Heap) (n : ℕ) (first : SeatHeld) (of_table 
         each zero d few =
             ready first of_table (omega (arith, opened.number_is, some)) opened.present opened.objects opened.sets (subst (λ (m : ℕ). HasBegun m first.seat.mine) (sym opened.number_is) opened.told)
         each (suc k) d few = other k d (omega (arith, few))
+
+-- so it is once the first seat was opened, whether its node was refused or not
+module _ (table : TableId) (heap : Heap) (olds news : List SeatHeld) (refused : Option Full) (opened : OpensFirst table heap olds news refused) (numbered : map (λ seat. seat.number) olds ≡ range_with_len 0 heap.seats)
+    (untouched : All (IsUntouched table heap) olds) (some : 1 ≤ heap.seats) where
+  pub still_numbered : map (λ seat. seat.number) news ≡ range_with_len 0 heap.seats
+  still_numbered =
+      ap (λ (l : List SeatHeld). map (λ (seat : SeatHeld). seat.number) l) opened.news_are
+      ∙ numbers_kept table heap heap.seats opened.first opened.of_table olds numbered (omega (arith, some)) opened.opened.number_is
+
+  pub still_of_table : All (IsOfTable table heap) news
+  still_of_table = subst (All (IsOfTable table heap)) (sym opened.news_are) (all_of_table table heap heap.seats opened.first opened.of_table olds untouched)
+
+  pub still_present : All IsPresent news
+  still_present = subst (All IsPresent) (sym opened.news_are) (all_present table heap heap.seats opened.first opened.of_table olds untouched opened.opened.present)
+
+  pub refused_there : (full : Full) → refused ≡ Some full → AreRefused news full
+  refused_there full is =
+      subst (λ (l : List SeatHeld). AreRefused l full) (sym opened.news_are)
+      (are_refused table heap heap.seats opened.first opened.of_table olds full (omega (arith, some, as_many olds heap.seats numbered)) untouched
+      (subst (HasOpened opened.first) is opened.opened))
+
+  pub ready_there : refused ≡ None → (scripts : List (List QueueCommand)) → length scripts ≡ heap.seats → All IsQueueScript scripts → All (IsReadyToServe table heap scripts) news
+  ready_there is scripts scripted fit =
+      subst (All (IsReadyToServe table heap scripts)) (sym opened.news_are)
+      (all_ready table heap heap.seats opened.first opened.of_table scripts scripted fit olds numbered untouched (subst (HasOpened opened.first) is opened.opened) (omega (arith, some)))

@@ -1,6 +1,6 @@
 -- The seats of a run that was refused its queue leave, and the closed table shows that the board has all.
-use Rattle.std.proofs.Common.{◌≡◌, ℕ, ◌+◌, ◌*◌, ◌<◌, ◌≤◌, inl, inr, false, cond, List, [], ◌∷◌, ◌++◌, length, map, get_or, Some, refl, sym, ap, ◌∙◌, subst, append_assoc, arith}
-use Rattle.std.specs.Prelude.{All, slice_get}
+use Rattle.std.proofs.Common.{◌≡◌, ℕ, ◌*◌, ◌<◌, inl, inr, false, cond, List, [], ◌∷◌, ◌++◌, length, map, get_or, sym, ap, ◌∙◌, subst, append_assoc, arith}
+use Rattle.std.specs.Prelude.{All}
 use Rattle.std.specs.List.{range_with_len}
 use Rattle.std.proofs.lemmas.Bool.{cases_lt}
 use Rattle.std.proofs.lemmas.List.Elements.{AllZip-get_or, length_all_zip}
@@ -73,7 +73,7 @@ module _ (olds news : List SeatHeld) (left : EachLeaves olds news) where
           let gone = one_left k d within in
           let place : old.number ≡ k = number_is_place olds heap.seats numbered k d below in
           sym (total_of_own_entries k (λ e. e.taken) one.history) ∙ (ap (taken_of k) (log k d below ∙ gone.mine)
-              ∙ takes_no_more k old.number gone.unborn old.seat.mine (ap (λ (n : ℕ). taken_of n old.seat.mine) (sym place) ∙ refused.took k d within)))
+          ∙ takes_no_more k old.number gone.unborn old.seat.mine (ap (λ (n : ℕ). taken_of n old.seat.mine) (sym place) ∙ refused.took k d within)))
       | inr past ↦ sym (total_of_own_entries k (λ e. e.taken) one.history) ∙ ap (taken_of k) (none_past heap one.history legal.objects k past)
     ]
 

@@ -1,6 +1,6 @@
 -- What seats that have served their scripts and left come to.
 use Rattle.std.proofs.Common.{◌≡◌, ℕ, ◌<◌, ◌≤◌, inl, inr, List, [], ◌∷◌, ◌++◌, length, map, get_or, Some, Ok, Result, sym, ap, ◌∙◌, subst, arith}
-use Rattle.std.specs.Prelude.{slice_get, option_map, All, IfOk}
+use Rattle.std.specs.Prelude.{slice_get, option_map, All}
 use Rattle.std.specs.List.{range_with_len}
 use Rattle.std.proofs.lemmas.Bool.{cases_lt}
 use Rattle.std.proofs.lemmas.List.{length-map}
@@ -15,10 +15,8 @@ use Rattle.heap_table.specs.SeatHeld.{SeatHeld}
 use Rattle.heap_runs.specs.Finishing.{HasGone}
 use Rattle.heap_runs.proofs.RunsEnd.{same_numbers}
 use Rattle.heap_queue.specs.declared.queue_command.QueueCommand.{QueueCommand}
-use Rattle.heap_queue.specs.Calls.{Call, QueueMade, calls_in}
 use Rattle.heap_queue.specs.Effects.{start}
 use Rattle.heap_queue.specs.Histories.{IsQueueLog, IsQueueHistory}
-use Rattle.heap_queue.specs.Places.{MakesNode}
 use Rattle.heap_queue.specs.Running.{script_at}
 use Rattle.heap_queue.specs.Served.{HasServed}
 use Rattle.heap_queue.specs.Working.{HasWorked, HaveEnded, HaveWorked}

@@ -1,4 +1,4 @@
-use Rattle.std.proofs.Common.{◌++◌, length, sym, subst, ap, ◌∙◌}
+use Rattle.std.proofs.Common.{◌++◌, length, sym, subst}
 use Rattle.heap_table.specs.SeatHeld.{SeatHeld}
 use Rattle.mutator_seat.specs.Resting.{seat_state}
 use Rattle.heap_queue.specs.Serving.{GoesOnBy, HasCome}
