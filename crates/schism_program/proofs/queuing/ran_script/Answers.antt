@@ -1,7 +1,6 @@
 use Rattle.std.proofs.Common.{List, Vec, Global, length, map, ap, subst, sym, ◌∙◌}
 use Rattle.std.specs.Prelude.{All}
 use Rattle.std.proofs.lemmas.Result.{IfOk-weaker}
-use Rattle.heap_table.specs.Known.{CollectorKnown}
 use Rattle.collector_turns.specs.Collector.{CollectorValue}
 use Rattle.heap_queue.specs.declared.queue_command.QueueCommand.{QueueCommand}
 use Rattle.heap_queue.specs.Running.{IsQueueScript}
@@ -27,6 +26,6 @@ returns-clause-ran g c =
     let script = c.args.script.now in
     let made = c.in_ok-holders in
     IfOk-weaker c.run_queue.result _ _
-    (λ ran whole. opened_has_run script made.collector c.make-2.result (map items c.as_slice.result.now) ran made.ensures.heap (ap (λ (known : CollectorKnown). known.collector.log) made.ensures.known)
+    (λ ran whole. opened_has_run script made.collector c.make-2.result (map items c.as_slice.result.now) ran made.ensures.heap made.ensures.known
     (ap (λ (value : CollectorValue). value.holder) c.make-2.ensures) (ap (map items) c.as_slice.ensures.value ∙ c.in_ok-scripts.ensures.told) whole)
     c.run_queue.ensures.ran

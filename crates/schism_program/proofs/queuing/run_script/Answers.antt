@@ -22,5 +22,5 @@ returns-in_ok-text-in-Ok g c =
 pub returns-in_ok-text-in-Err-Full : goal.returns-in_ok-text-in-Err-Full
 returns-in_ok-text-in-Err-Full g c =
     let heap = c.args.script.now.heap in
-    let full : IsFaultOf heap (Full c.in-Err-Full.need c.in-Err-Full.found) = subst (IsFaultOf heap) c.in-Err-Full.field-0-is c.in-Err-Full.ensures.fault in
+    let full : IsFaultOf heap (Full c.in-Err-Full.field-0-0 c.in-Err-Full.field-0-1) = subst (IsFaultOf heap) c.in-Err-Full.field-0-is c.in-Err-Full.ensures.fault in
     inl (record { all_taken = full.2; says = c.in_ok-text-in-Err-Full.ensures; unclosed = refl })
