@@ -3,7 +3,6 @@ use Rattle.std.specs.Prelude.{All}
 use Rattle.std.proofs.lemmas.Bool.{leb-true}
 use Rattle.heap_queue.specs.declared.queue_command.QueueCommand.{QueueCommand}
 use Rattle.heap_queue.specs.Running.{IsQueueScript}
-use Rattle.heap_queue.specs.SeatScripts.{seat_scripts}
 use Rattle.heap_queue.proofs.OpenedQueue.{opened_queue}
 use Rattle.heap_queue.proofs.ScriptLines.{length-seat_scripts}
 use Rattle.run_tests.proofs.tests.queues.ran_by.Goals as goal
