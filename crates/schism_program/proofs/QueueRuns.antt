@@ -1,7 +1,6 @@
 -- A queue's seats, which are handed the scripts of a text, run it on the table that opened.
-use Rattle.std.proofs.Common.{◌≡◌, ℕ, ◌≤◌, List, [], true, ap, subst, ◌∙◌}
+use Rattle.std.proofs.Common.{◌≡◌, ◌≤◌, List, ap, subst, ◌∙◌}
 use Rattle.std.proofs.lemmas.Bool.{leb-true}
-use Rattle.heap_model.specs.declared.entry.Entry.{Entry}
 use Rattle.heap_table.specs.CollectorHeld.{CollectorHeld}
 use Rattle.heap_table.specs.Known.{CollectorKnown, opening_known}
 use Rattle.collector_turns.specs.Collector.{CollectorValue}

@@ -26,7 +26,6 @@ use Rattle.log_merge.proofs.SameLogs.{snoc_is_injective, same_totals, keep_each_
 use Rattle.script_text.specs.declared.script.Script.{Script}
 use Rattle.script_text.specs.Words.{preamble_of}
 use Rattle.heap_model.specs.account.Account.{IsLegal}
-use Rattle.heap_model.specs.account.Space.{fragments_gained, fragments_lost}
 use Rattle.heap_runs.specs.Finishing.{HasLogs, EndsUnused}
 use Rattle.heap_runs.specs.SeatWork.{HasWorked, HaveWorked, script_at}
 use Rattle.schism_program.specs.Running.{seat_commands, merged_history, IsRunOf, IsOfTable}
