@@ -5,6 +5,7 @@ use Rattle.std.specs.List.{range_with_len}
 use Rattle.std.proofs.lemmas.Bool.Decides.{eqb_tells}
 use Rattle.std.proofs.lemmas.List.Elements.{All-cons, All-tail, All-weaker}
 use Rattle.atomic_table.specs.Seated.{TableId}
+use Rattle.heap_model.specs.Heap.{IsHeap}
 use Rattle.heap_model.specs.account.Space.{taken_of}
 use Rattle.heap_model.specs.declared.entry.Entry.{Entry}
 use Rattle.heap_model.specs.declared.heap.Heap.{Heap}
@@ -100,13 +101,19 @@ module _ (table : TableId) (heap : Heap) (n : ℕ) (first : SeatHeld) (of_table 
             ready first of_table (omega (arith, opened.number_is, some)) opened.present opened.objects opened.sets (subst (λ (m : ℕ). HasBegun m first.seat.mine) (sym opened.number_is) opened.told)
         each (suc k) d few = other k d (omega (arith, few))
 
--- so it is once the first seat was opened, whether its node was refused or not
-module _ (table : TableId) (heap : Heap) (olds news : List SeatHeld) (refused : Option Full) (opened : OpensFirst table heap olds news refused) (numbered : map (λ seat. seat.number) olds ≡ range_with_len 0 heap.seats)
-    (untouched : All (IsUntouched table heap) olds) (some : 1 ≤ heap.seats) where
+-- so it is of all seats of a collector's table once the first was opened by that table's name, whether its node was refused or not
+module _ {table its_table : TableId} {heap its_heap named : Heap} {olds news : List SeatHeld} {refused : Option Full} (table_is : table ≡ its_table) (heap_is : heap ≡ its_heap) (named_is : named ≡ heap)
+    (limits : IsHeap named) (opens : OpensFirst its_table its_heap olds news refused) (numbered : map (λ seat. seat.number) olds ≡ range_with_len 0 heap.seats) (untouched : All (IsUntouched table heap) olds) where
+  opened : OpensFirst table heap olds news refused
+  opened = subst (λ (h : Heap). OpensFirst table h olds news refused) (sym heap_is) (subst (λ (t : TableId). OpensFirst t its_heap olds news refused) (sym table_is) opens)
+
+  some : 0 < heap.seats
+  some = omega (arith, limits.some_seat, ap (λ (h : Heap). h.seats) named_is)
+
   pub still_numbered : map (λ seat. seat.number) news ≡ range_with_len 0 heap.seats
   still_numbered =
       ap (λ (l : List SeatHeld). map (λ (seat : SeatHeld). seat.number) l) opened.news_are
-      ∙ numbers_kept table heap heap.seats opened.first opened.of_table olds numbered (omega (arith, some)) opened.opened.number_is
+      ∙ numbers_kept table heap heap.seats opened.first opened.of_table olds numbered some opened.opened.number_is
 
   pub still_of_table : All (IsOfTable table heap) news
   still_of_table = subst (All (IsOfTable table heap)) (sym opened.news_are) (all_of_table table heap heap.seats opened.first opened.of_table olds untouched)
@@ -120,7 +127,9 @@ module _ (table : TableId) (heap : Heap) (olds news : List SeatHeld) (refused : 
       (are_refused table heap heap.seats opened.first opened.of_table olds full (omega (arith, some, as_many olds heap.seats numbered)) untouched
       (subst (HasOpened opened.first) is opened.opened))
 
-  pub ready_there : refused ≡ None → (scripts : List (List QueueCommand)) → length scripts ≡ heap.seats → All IsQueueScript scripts → All (IsReadyToServe table heap scripts) news
+  pub ready_there : refused ≡ None → (scripts : List (List QueueCommand)) → length scripts ≡ heap.seats → All IsQueueScript scripts → All (IsReadyToServe its_table its_heap scripts) news
   ready_there is scripts scripted fit =
-      subst (All (IsReadyToServe table heap scripts)) (sym opened.news_are)
-      (all_ready table heap heap.seats opened.first opened.of_table scripts scripted fit olds numbered untouched (subst (HasOpened opened.first) is opened.opened) (omega (arith, some)))
+      subst (λ (h : Heap). All (IsReadyToServe its_table h scripts) news) heap_is
+      (subst (λ (t : TableId). All (IsReadyToServe t heap scripts) news) table_is
+      (subst (All (IsReadyToServe table heap scripts)) (sym opened.news_are)
+      (all_ready table heap heap.seats opened.first opened.of_table scripts scripted fit olds numbered untouched (subst (HasOpened opened.first) is opened.opened) some)))
