@@ -1,4 +1,4 @@
-//! Plays, runs on a shared table, crews, and texts of queues, by the public calls of heap_runs, script_crew and heap_queue.
+//! Plays, runs on a shared table, crews and queues, by the public calls of heap_runs, script_crew and heap_queue.
 
 ghost use Rattle.std.specs.Prelude.{◌≡◌, ◌<◌, [], IfOk};
 ghost use Rattle.script_text.specs.declared.script.Form.TheVariants.{Play};
@@ -17,11 +17,13 @@ use std::test::Fail;
 mod comparing;
 mod crews;
 mod growing;
+mod meeting;
 mod one_table;
 mod orders;
 mod pacing;
 mod pressed;
 mod queue_texts;
+mod queues;
 mod seat_runs;
 
 /// The script that the text is.

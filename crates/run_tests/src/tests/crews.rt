@@ -4,14 +4,12 @@ ghost use Rattle.heap_model.specs.Heap.{IsHeap};
 ghost use Rattle.script_crew.specs.Jobs.{AreJobs, IsJob, command_count};
 ghost use Rattle.script_crew.specs.Runs.{job_numbers};
 
-mod meeting;
-
+use super::meeting::Meeting;
 use collector_turns::Collector;
 use core_machine::Log;
 use heap_model::{Command, Entry, Gate, Heap, Memory, OpenGate};
 use heap_runs::seats_of;
 use heap_table::HeapTable;
-use meeting::Meeting;
 use script_crew::{CrewRan, Job, JobRun, run_crew};
 use slack_pace::Steady;
 use std::alloc::Global;
