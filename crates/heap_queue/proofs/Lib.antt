@@ -18,7 +18,9 @@ pub mod PutCalls
 pub mod PutMoves
 pub mod QueueLaws
 pub mod QueueTexts
+pub mod QuietCalls
 pub mod RefusedSeats
+pub mod RoomLeft
 pub mod ScriptLines
 pub mod SeatRegisters
 pub mod SeatTelling

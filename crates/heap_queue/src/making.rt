@@ -1,5 +1,6 @@
-ghost use Rattle.std.specs.Prelude.{◌≡◌, IfOk, IfErr};
+ghost use Rattle.std.specs.Prelude.{◌≡◌, ℕ, IfOk, IfErr};
 ghost use Rattle.heap_model.specs.Needs.{record_fragments};
+ghost use Rattle.heap_model.specs.account.PhaseCounts.{last_answer};
 ghost use Rattle.heap_model.specs.calls.SeatReplies.{next_id, LacksFragments};
 ghost use Rattle.heap_queue.specs.Calls.{make_call};
 ghost use Rattle.heap_queue.specs.Grows.{MayCall, Completes, Spends};
@@ -15,6 +16,7 @@ pub fn make_queue<S: SeatCalls>(seat: &mut S) -> Result<Id, Full>
     ensures made { IfOk result (λ id. id ≡ next_id (S.state seat.old)) }
     ensures full { IfErr result (λ full. LacksFragments (S.state seat.old) (S.state seat.new) (record_fragments 2) full.need full.found) }
     ensures spends { Spends 1 3 14 (S.state seat.old) (S.state seat.new) }
+    ensures quiet { (number : ℕ) → last_answer number (S.state seat.new).mine ≡ last_answer number (S.state seat.old).mine }
 {
     let id = seat.new_record(15, 2)?;
     let _ = seat.set(0, 0, 15);

@@ -1,11 +1,12 @@
 -- The making of the queue, reply by reply.
-use Rattle.std.proofs.Common.{ap, refl, arith}
+use Rattle.std.proofs.Common.{ap, refl, arith, ◌∙◌}
 use Rattle.std.proofs.lemmas.Result.{err_from_is_err_and}
 use Rattle.heap_model.specs.declared.command.Command.TheVariants.{New, Set}
 use Rattle.heap_model.specs.declared.reply.Reply.TheVariants.{Full, Made}
 use Rattle.heap_model.specs.calls.SeatReplies.{record_reply}
 use Rattle.heap_queue.specs.Places.{MakesNode, SetsFirst, SetsLast}
 use Rattle.heap_queue.proofs.HeapCalls.{goes, ends_so, spends, spends_more, spends_most, is_ready, is_ready_then, left_less}
+use Rattle.heap_queue.proofs.QuietCalls.{new_is_quiet, set_is_quiet}
 use Rattle.heap_queue.proofs.making.make_queue.Goals as goal
 
 pub new_record-requires : goal.new_record-requires
@@ -34,3 +35,9 @@ pub returns-clause-spends : goal.returns-clause-spends
 returns-clause-spends g c =
     spends_most 1 3 14 (spends_more (Set 0 1 15) (λ e. cc) (spends_more (Set 0 0 15) (λ e. cc) (spends (New 15 2) (λ e. cc) c.new_record.ensures.added) c.set.ensures.added) c.set-2.ensures.added)
     (omega arith) (omega arith) (omega arith)
+
+pub returns-in_err-id-clause-quiet : goal.returns-in_err-id-clause-quiet
+returns-in_err-id-clause-quiet g c number = new_is_quiet number 15 2 c.new_record.ensures.added
+
+pub returns-clause-quiet : goal.returns-clause-quiet
+returns-clause-quiet g c number = set_is_quiet number 0 1 15 c.set-2.ensures.added ∙ (set_is_quiet number 0 0 15 c.set.ensures.added ∙ new_is_quiet number 15 2 c.new_record.ensures.added)
