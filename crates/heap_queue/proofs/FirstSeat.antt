@@ -18,10 +18,10 @@ use Rattle.heap_model.specs.declared.refusal.Full.{Full}
 use Rattle.heap_table.specs.SeatHeld.{SeatHeld}
 use Rattle.mutator_seat.specs.Resting.{seat_state}
 use Rattle.heap_queue.specs.Calls.{Call, QueueMade, MakeRefused, ends, IsWhole}
-use Rattle.heap_queue.specs.Grows.{Completes, Spends}
+use Rattle.heap_queue.specs.Grows.{Completes, MakesFirst, MakesAtOnce, Spends}
+use Rattle.heap_queue.specs.Histories.{Leads}
 use Rattle.heap_queue.specs.Opening.{OpensBy, HasOpened}
-use Rattle.heap_queue.specs.Places.{MakesNode, SetsFirst, SetsLast, Gone, after}
-use Rattle.heap_queue.specs.Serving.{HasBegun}
+use Rattle.heap_queue.specs.Places.{MakesNode, SetsFirst, SetsLast, Rests, Gone, after}
 use Rattle.heap_queue.proofs.WholeCalls.{whole_leads}
 
 -- a seat that has told nothing has made no object and done no set
@@ -107,10 +107,14 @@ module _ (old : SeatState) (new : SeatHeld) (number : old.number ≡ 0) (present
       }
 
   -- has made the queue
-  pub has_made : Completes MakesNode old (seat_state new) QueueMade → HasOpened new None
-  has_made called =
+  pub has_made : Completes MakesNode old (seat_state new) QueueMade → MakesAtOnce old (seat_state new) → HasOpened new None
+  has_made called at_once =
       let log : new.seat.mine ≡ called.added = called.told ∙ ap (λ (l : List Entry). l ++ called.added) silent in
-      opens None (subst (HasBegun 0) (sym log) (whole_leads MakesNode called.added QueueMade called.whole))
+      let made : new.seat.mine ≡ at_once.added = at_once.told ∙ ap (λ (l : List Entry). l ++ at_once.added) silent in
+      opens None (record {
+        leads = subst (λ (l : List Entry). Leads MakesNode l Rests (QueueMade ∷ [])) (sym log) (whole_leads MakesNode called.added QueueMade called.whole);
+        at_once = λ first. subst MakesFirst (sym made) at_once.makes;
+      })
 
   -- or was refused its node
   pub was_refused : (full : Full) → Completes MakesNode old (seat_state new) (MakeRefused full.need full.found) → LacksFragments old (seat_state new) (record_fragments 2) full.need full.found → HasOpened new (Some full)

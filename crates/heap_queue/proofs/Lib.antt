@@ -2,6 +2,7 @@ pub mod Chains
 pub mod ClosedLogs
 pub mod EveryHistory
 pub mod EveryMove
+pub mod FirstClaims
 pub mod FirstSeat
 pub mod GraphViews
 pub mod HeapCalls
@@ -19,6 +20,7 @@ pub mod PutMoves
 pub mod QueueLaws
 pub mod QueueTexts
 pub mod RefusedSeats
+pub mod RoomLeft
 pub mod ScriptLines
 pub mod SeatRegisters
 pub mod SeatTelling

@@ -16,11 +16,12 @@ use Rattle.heap_runs.specs.CollectCall.{IsPresent}
 use Rattle.heap_runs.specs.SeatWork.{IsOfTable, objects_of, sets_of}
 use Rattle.heap_queue.specs.declared.queue_command.QueueCommand.{QueueCommand}
 use Rattle.heap_queue.specs.Calls.{QueueMade}
+use Rattle.heap_queue.specs.Effects.{start}
 use Rattle.heap_queue.specs.Histories.{Leads}
 use Rattle.heap_queue.specs.Opening.{HasOpened, OpensFirst, AreRefused}
 use Rattle.heap_queue.specs.Places.{MakesNode, Rests, Waits}
 use Rattle.heap_queue.specs.Running.{IsQueueScript, IsUntouched, script_at}
-use Rattle.heap_queue.specs.Serving.{HasBegun}
+use Rattle.heap_queue.specs.Serving.{HasBegun, begin_place, first_calls}
 use Rattle.heap_queue.specs.Working.{IsReadyToServe}
 use Rattle.heap_queue.proofs.ClosedLogs.{as_many, number_is_place}
 use Rattle.heap_queue.proofs.FirstSeat.{fresh}
@@ -28,10 +29,13 @@ use Rattle.heap_queue.proofs.ServingLogs.{leads_nowhere}
 
 -- another seat than the first has begun where it has told nothing
 none_told : (number k : ℕ) → number ≡ suc k → HasBegun number []
-none_told number k is = elim (eqb_tells number 0) [
-  | inl same ↦ absurd (omega (arith, same.1, is))
-  | inr apart ↦ subst (λ first. Leads (cond first MakesNode Waits) [] (cond first Rests Waits) (cond first (QueueMade ∷ []) [])) (sym apart.0) (leads_nowhere Waits)
-]
+none_told number k is = record {
+  leads = elim (eqb_tells number 0) as (λ _. Leads (start 0 number) [] (begin_place number) (first_calls number)) [
+    | inl same ↦ absurd (omega (arith, same.1, is))
+    | inr apart ↦ subst (λ first. Leads (cond first MakesNode Waits) [] (cond first Rests Waits) (cond first (QueueMade ∷ []) [])) (sym apart.0) (leads_nowhere Waits)
+  ];
+  at_once = λ first. absurd (omega (arith, first, is));
+}
 
 waits : (number k : ℕ) (log : List Entry) → number ≡ suc k → log ≡ [] → HasBegun number log
 waits number k log is silent = subst (HasBegun number) (sym silent) (none_told number k is)

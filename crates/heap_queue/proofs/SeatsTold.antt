@@ -94,7 +94,7 @@ first_are_makings false = tt
 
 served_tells : (number : ℕ) (script : List QueueCommand) (log : List Entry) → (served : HasServed number script log) → TellEach script served.calls (told_in number log)
 served_tells number script log served =
-    let found = served.found in
+    let found = served.found.leads in
     let left = served.left in
     let opened : ℕ → Value = held_behind opening_held served.opening in
     let behind : ℕ → Value = held_behind opened served.serving in

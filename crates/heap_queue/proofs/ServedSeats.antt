@@ -1,5 +1,5 @@
 -- What seats that have served their scripts and left come to.
-use Rattle.std.proofs.Common.{◌≡◌, ℕ, ◌<◌, ◌≤◌, inl, inr, List, [], ◌∷◌, ◌++◌, length, map, get_or, Some, Ok, Result, sym, ap, ◌∙◌, subst, arith}
+use Rattle.std.proofs.Common.{◌≡◌, ℕ, ◌<◌, ◌≤◌, inl, inr, List, [], ◌∷◌, ◌++◌, length, map, get_or, Some, Ok, Result, refl, sym, ap, ◌∙◌, subst, append_assoc, arith}
 use Rattle.std.specs.Prelude.{slice_get, option_map, All}
 use Rattle.std.specs.List.{range_with_len}
 use Rattle.std.proofs.lemmas.Bool.{cases_lt}
@@ -16,11 +16,13 @@ use Rattle.heap_runs.specs.Finishing.{HasGone}
 use Rattle.heap_runs.proofs.RunsEnd.{same_numbers}
 use Rattle.heap_queue.specs.declared.queue_command.QueueCommand.{QueueCommand}
 use Rattle.heap_queue.specs.Effects.{start}
+use Rattle.heap_queue.specs.Grows.{MakesFirst}
 use Rattle.heap_queue.specs.Histories.{IsQueueLog, IsQueueHistory}
 use Rattle.heap_queue.specs.Running.{script_at}
 use Rattle.heap_queue.specs.Served.{HasServed}
 use Rattle.heap_queue.specs.Working.{HasWorked, HaveEnded, HaveWorked}
 use Rattle.heap_queue.proofs.ClosedLogs.{as_many, number_is_place, log_there, none_past}
+use Rattle.heap_queue.proofs.FirstClaims.{makes_first_more}
 
 -- a worker came to its end with this seat
 abbrev ok_of : SeatHeld → Result SeatHeld Memory
@@ -73,6 +75,12 @@ module _ (heap : Heap) (scripts : List (List QueueCommand)) (seats : List SeatHe
       let its = served k d (omega (arith, many, below)) in
       subst (λ (log : List Entry). HasServed k (script_at scripts k) log) (sym (log_there heap seats last history many same k d below))
       (subst (λ (n : ℕ). HasServed n (script_at scripts n) (get_or seats k d).seat.mine) (number_is_place seats heap.seats numbered k d below) its)
+
+  -- the first seat's begins with the making of the queue
+  pub first_makes : 1 ≤ heap.seats → MakesFirst (log_of 0 history)
+  first_makes some =
+      let first = at 0 (some_seat seats (omega (arith, many, some))) (omega (arith, some)) in
+      subst MakesFirst (sym (first.log_is ∙ append_assoc first.opening first.serving first.leaving)) (makes_first_more first.opening (first.serving ++ first.leaving) (first.found.at_once refl))
 
   pub is_queue_history : 1 ≤ heap.seats → IsQueueHistory heap 0 history
   is_queue_history some =

@@ -82,5 +82,5 @@ has_come number script opening serving found (calls, served) = record {
   serving = serving;
   served = served;
   log_is = refl;
-  leads = leads_on (start 0 number) Rests Rests opening serving (first_calls number) calls found (each_rests number script calls serving served);
+  leads = leads_on (start 0 number) Rests Rests opening serving (first_calls number) calls found.leads (each_rests number script calls serving served);
 }

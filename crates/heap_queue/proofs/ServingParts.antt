@@ -28,9 +28,11 @@ begins_waiting number other = elim (eqb_tells number 0) as (λ _. begin_place nu
 ]
 
 found_behind : (number : ℕ) (log more : List Entry) → number ≢ 0 → HasBegun number log → HasLooked Rests more → HasFound number (log ++ more)
-found_behind number log more other begun looked =
-    subst (λ (x : List Call). Leads (start 0 number) (log ++ more) Rests x) (append-nil (first_calls number))
-    (leads_on (start 0 number) Waits Rests log more (first_calls number) [] (subst (λ (p : Place). Leads (start 0 number) log p (first_calls number)) (begins_waiting number other) begun) looked)
+found_behind number log more other begun looked = record {
+  leads = subst (λ (x : List Call). Leads (start 0 number) (log ++ more) Rests x) (append-nil (first_calls number))
+      (leads_on (start 0 number) Waits Rests log more (first_calls number) [] (subst (λ (p : Place). Leads (start 0 number) log p (first_calls number)) (begins_waiting number other) begun.leads) looked);
+  at_once = λ first. absurd (other first);
+}
 
 -- by what it finds it has found the queue
 pub finds : {E : Type 0} (old new : SeatState) (number : ℕ) (result : Result (Unit {0}) E) → number ≢ 0 → HasBegun number old.mine → OnOk result (GoesOnBy 0 (HasLooked Rests) old new)

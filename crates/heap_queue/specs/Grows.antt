@@ -1,7 +1,10 @@
 -- When a seat may make the queue, put or take, and what one such call adds to its list.
-use Rattle.std.specs.Prelude.{◌≡◌, ℕ, ◌+◌, ◌<◌, ◌≤◌, false, List, ◌++◌, length}
+use Rattle.std.specs.Prelude.{◌≡◌, ℕ, ◌+◌, ◌<◌, ◌≤◌, false, List, ◌∷◌, ◌++◌, length}
 use Rattle.heap_model.specs.Limits.{name_limit, stamp_limit}
+use Rattle.heap_model.specs.declared.command.Command.TheVariants.{New}
 use Rattle.heap_model.specs.declared.entry.Entry.{Entry}
+use Rattle.heap_model.specs.declared.entry.Entry.TheVariants.{Said, Takes}
+use Rattle.heap_model.specs.declared.reply.Reply.TheVariants.{Made}
 use Rattle.heap_model.specs.calls.SeatState.{SeatState, own_graph_seat}
 use Rattle.heap_queue.specs.Calls.{Call, IsWhole}
 use Rattle.heap_queue.specs.Places.{Place}
@@ -22,6 +25,18 @@ pub record Completes (place : Place) (old new : SeatState) (call : Call) : Type 
   pub added : List Entry
   pub told : new.mine ≡ old.mine ++ added
   pub whole : IsWhole place added call
+
+-- the first of the entries claims fragments, or tells that a node was made
+abbrev pub MakesFirst : List Entry → Type 0
+MakesFirst (Takes number count ∷ log) = Unit {0}
+MakesFirst (Said number command (Made id) ∷ log) = command ≡ New 15 2
+MakesFirst log = ⊥
+
+-- what the seat told begins with what it claimed for a node, or with that node's making
+pub record MakesAtOnce (old new : SeatState) : Type 0 where
+  pub added : List Entry
+  pub told : new.mine ≡ old.mine ++ added
+  pub makes : MakesFirst added
 
 -- it is the same seat of the same heap, hasn't left since, and at most so many of its names, stamps and places for entries are gone
 pub record Spends (names stamps room : ℕ) (old new : SeatState) : Type 0 where

@@ -10,6 +10,7 @@ use Rattle.heap_queue.specs.declared.queue_command.QueueCommand.{QueueCommand}
 use Rattle.heap_queue.specs.declared.queue_command.QueueCommand.TheVariants.{Put, Take}
 use Rattle.heap_queue.specs.Calls.{Call, QueueMade, PutRefused, PutCall, TookInto, TakeCall, IsWhole}
 use Rattle.heap_queue.specs.Effects.{start}
+use Rattle.heap_queue.specs.Grows.{MakesFirst}
 use Rattle.heap_queue.specs.Histories.{Leads}
 use Rattle.heap_queue.specs.Places.{Place, Waits, Rests}
 
@@ -77,13 +78,15 @@ first_calls number = if number == 0 then QueueMade ∷ [] else []
 abbrev pub begin_place : ℕ → Place
 begin_place number = if number == 0 then Rests else Waits
 
--- the log is that of a seat once the first one has made the queue
-abbrev pub HasBegun : ℕ → List Entry → Type 0
-HasBegun number log = Leads (start 0 number) log (begin_place number) (first_calls number)
+-- the log is that of a seat once the first one has made the queue, with whose making the first one's log begins
+pub record HasBegun (number : ℕ) (log : List Entry) : Type 0 where
+  pub leads : Leads (start 0 number) log (begin_place number) (first_calls number)
+  pub at_once : number ≡ 0 → MakesFirst log
 
--- the log is that of a seat which has made or found the queue
-abbrev pub HasFound : ℕ → List Entry → Type 0
-HasFound number log = Leads (start 0 number) log Rests (first_calls number)
+-- the log is that of a seat which has made or found the queue; the first one's begins with the making
+pub record HasFound (number : ℕ) (log : List Entry) : Type 0 where
+  pub leads : Leads (start 0 number) log Rests (first_calls number)
+  pub at_once : number ≡ 0 → MakesFirst log
 
 -- the seat has made or found the queue, and then served its script by these calls, each with the reply that its log shows; so the log is one of a queue, and no other call ends in it
 pub record HasCome (number : ℕ) (script : List QueueCommand) (log : List Entry) : Type 0 where

@@ -11,7 +11,6 @@ use crate::queue_fault::QueueFault;
 use crate::refusing::refuse;
 use crate::workers::work_all;
 use collector_turns::Collector;
-use heap_model::limits::GROUP_FRAGMENTS;
 use heap_model::{Gate, Memory};
 use heap_runs::{Held, HeldName, finish};
 use heap_table::Closed;
@@ -75,10 +74,6 @@ fn run_named<N: HeldName + Send + Sync, G: Gate, R: Threads + Wait + Sync>(
     let refused = open::<N>(&mut seats)?;
     if let Some(full) = refused {
         return Err(refuse(rt, alloc, seats, collector, full));
-    }
-    // Where the board has all fragments no node is made. That isn't proved here, and so it is asked.
-    if u32::from(heap.groups) * u32::from(GROUP_FRAGMENTS) <= heap.board_fragments() {
-        return Err(QueueFault::Memory);
     }
     let ran = serve_all::<N, G, R>(rt, alloc, seats, collector, scripts, pace, gate)?;
     Ok(ran)

@@ -1,10 +1,12 @@
 -- The making of the queue, reply by reply.
-use Rattle.std.proofs.Common.{ap, refl, arith}
+use Rattle.std.proofs.Common.{ap, refl, subst, arith}
 use Rattle.std.proofs.lemmas.Result.{err_from_is_err_and}
 use Rattle.heap_model.specs.declared.command.Command.TheVariants.{New, Set}
 use Rattle.heap_model.specs.declared.reply.Reply.TheVariants.{Full, Made}
+use Rattle.heap_model.specs.calls.SeatCalls.{Adds}
 use Rattle.heap_model.specs.calls.SeatReplies.{record_reply}
 use Rattle.heap_queue.specs.Places.{MakesNode, SetsFirst, SetsLast}
+use Rattle.heap_queue.proofs.FirstClaims.{makes_at_once, at_once_more}
 use Rattle.heap_queue.proofs.HeapCalls.{goes, ends_so, spends, spends_more, spends_most, is_ready, is_ready_then, left_less}
 use Rattle.heap_queue.proofs.making.make_queue.Goals as goal
 
@@ -34,3 +36,7 @@ pub returns-clause-spends : goal.returns-clause-spends
 returns-clause-spends g c =
     spends_most 1 3 14 (spends_more (Set 0 1 15) (λ e. cc) (spends_more (Set 0 0 15) (λ e. cc) (spends (New 15 2) (λ e. cc) c.new_record.ensures.added) c.set.ensures.added) c.set-2.ensures.added)
     (omega arith) (omega arith) (omega arith)
+
+pub returns-clause-at_once : goal.returns-clause-at_once
+returns-clause-at_once g c =
+    at_once_more (at_once_more (makes_at_once c.in_ok-id.id (subst (Adds (g.S.SeatCalls.state c.args.seat.now) (g.S.SeatCalls.state c.new_record.new.self) (New 15 2)) (ap record_reply c.in_ok-id.was) c.new_record.ensures.added)) c.set.ensures.added) c.set-2.ensures.added

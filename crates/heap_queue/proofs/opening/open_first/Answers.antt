@@ -8,7 +8,7 @@ pub returns-in-Ok : goal.returns-in-Ok
 returns-in-Ok g c =
     let same = c.room.ensures.same in
     has_made (seat_state c.room.new.self) c.make_queue.new.seat (ap (λ (s : SeatState). s.number) same ∙ c.requires.number) (ap (λ (s : SeatState). (own_graph_seat s).left) same ∙ c.requires.present)
-    (ap (λ (s : SeatState). s.mine) same ∙ c.requires.silent) c.in-Ok.ensures.spends c.in-Ok.ensures.called
+    (ap (λ (s : SeatState). s.mine) same ∙ c.requires.silent) c.in-Ok.ensures.spends c.in-Ok.ensures.called c.in-Ok.ensures.at_once
 
 pub returns-in-Err : goal.returns-in-Err
 returns-in-Err g c =
