@@ -70,7 +70,8 @@ fn run_named<N: HeldName + Send + Sync, G: Gate, R: Threads + Wait + Sync>(
     ensures full { IfErr result (IsFaultOf collector.holder.heap) }
     ensures room { IfOk result (λ ran. record_fragments collector.holder.heap.board < group_fragments * collector.holder.heap.groups) }
 {
-    let heap = collector.heap();
+    // What is true of every collector's heap is known from here on.
+    let _ = collector.heap();
     let refused = open::<N>(&mut seats)?;
     if let Some(full) = refused {
         return Err(refuse(rt, alloc, seats, collector, full));
