@@ -1,5 +1,5 @@
 -- A making of the queue tells nothing before its claims.
-use Rattle.std.proofs.Common.{◌≡◌, ℕ, List, [], ◌∷◌, ◌++◌, refl, sym, ap, ◌∙◌, subst, append_assoc}
+use Rattle.std.proofs.Common.{ℕ, List, [], ◌∷◌, ◌++◌, refl, sym, ap, ◌∙◌, subst, append_assoc}
 use Rattle.heap_model.specs.calls.SeatCalls.{Adds, takes_of}
 use Rattle.heap_model.specs.calls.SeatState.{SeatState}
 use Rattle.heap_model.specs.declared.command.Command.{Command}
