@@ -5,10 +5,9 @@ ghost use Rattle.heap_model.specs.Heap.{IsHeap};
 mod table;
 
 use super::comparing::holds;
-use super::script_of;
+use super::{played, script_of};
 use heap_model::phase_plan::{CYCLE_PHASES, REST};
 use heap_model::{CollectorCalls, Command, Entry, Memory};
-use heap_runs::{MachineHeap, play};
 use script_text::Script;
 use std::alloc::Global;
 use std::test::Fail;
@@ -47,11 +46,8 @@ const SECOND_SCRIPTS: [&str; 5] = [
     "heap 1 4 1 46\n0 array 1 1\n0 set 0 45 0\n0 collect\n0 get 2 0 45\n",
 ];
 
-/// What the parties of one table tell of the script, of the seats' leaves, and of a last whole cycle.
-fn told_by_one_table(alloc: Global, script: &Script) -> Result<Vec<Entry>, Memory>
-    requires { IsHeap script.now.heap }
-{
-    let mut table = OneTable::opening(alloc, script.heap)?;
+/// The parties of one table play the script, the seats' leaves, and a last whole cycle.
+fn play_all(table: &mut OneTable, script: &Script) -> Result<(), Memory> {
     for line in script.lines.as_slice() {
         table.play(line)?;
     }
@@ -61,7 +57,15 @@ fn told_by_one_table(alloc: Global, script: &Script) -> Result<Vec<Entry>, Memor
     if table.collector.phase() % CYCLE_PHASES != REST {
         table.cycle()?;
     }
-    table.cycle()?;
+    table.cycle()
+}
+
+/// What they tell of that.
+fn told_by_one_table(alloc: Global, script: &Script) -> Result<Vec<Entry>, Memory>
+    requires { IsHeap script.now.heap }
+{
+    let mut table = OneTable::opening(alloc, script.heap)?;
+    play_all(&mut table, script)?;
     Ok(table.told)
 }
 
@@ -80,8 +84,7 @@ fn are_those_of(told: &[Entry], entries: &[Entry]) -> bool {
 fn tell_the_same(alloc: Global, text: &str) -> Result<bool, Fail> {
     let script = script_of(alloc, text)?;
     let told = told_by_one_table(alloc, &script)?;
-    let whole = MachineHeap::make(alloc, script.heap)?;
-    let history = play(whole, script.heap, &script, None)?;
+    let history = played(alloc, &script, None)?;
     Ok(are_those_of(told.as_slice(), history.entries.as_slice()))
 }
 
