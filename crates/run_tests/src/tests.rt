@@ -77,7 +77,7 @@ const WAITS: TurnReply = TurnReply::Waits {
 };
 
 /// Lines for the collector behind its first turn, each with its answer, and how many turns were made then.
-const TURN_LINES: [(TurnCommand, TurnReply, u64); 3] = [
+const TURN_LINES: &[(TurnCommand, TurnReply, u64)] = &[
     (TurnCommand::Turns(1), TurnReply::Done, 2),
     (TurnCommand::Turns(9), WAITS, 3),
     (TurnCommand::Cycle, WAITS, 4),
@@ -89,10 +89,10 @@ fn makes_turns<H: PlayHeap>(rt: &impl Abort, whole: &mut H) -> Result<(), Fail> 
     holds(rt, whole.spare() >= 3, &"the room");
     same(rt, &whole.turn()?, &Turn::Stepped, &"the first turn");
     for (command, reply, turns) in TURN_LINES {
-        let answer = turn_line(whole, &command)?;
-        same(rt, &answer, &reply, &turns);
-        same(rt, &whole.turns(), &turns, &turns);
-        same(rt, &whole.phase(), &1, &turns);
+        let answer = turn_line(whole, command)?;
+        same(rt, &answer, reply, turns);
+        same(rt, &whole.turns(), turns, turns);
+        same(rt, &whole.phase(), &1, turns);
     }
     same(rt, &whole.entries().len(), &1, &"the entries");
     Ok(())

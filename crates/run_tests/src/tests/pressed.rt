@@ -18,7 +18,7 @@ use std::alloc::Global;
 use std::test::Fail;
 
 /// Scripts, and what their plays tell.
-const PLAYS: [(&str, &str); 4] = [SCATTERED, TOO_LARGE, NO_WORDS, BESIDE_A_SILENT_SEAT];
+const PLAYS: &[(&str, &str)] = &[SCATTERED, TOO_LARGE, NO_WORDS, BESIDE_A_SILENT_SEAT];
 
 // Five records of a fragment each are all that there is beside the board. Two of them are dropped, so a collect makes room for one of two fragments.
 const SCATTERED: (&str, &str) = (
@@ -66,7 +66,7 @@ fn told(alloc: Global, text: &str) -> Result<Vec<u8>, Fail> {
 fn seats_collect_where_they_are_refused(rt: HostRuntime) -> Result<(), Fail> {
     for (text, wanted) in PLAYS {
         let told = told(rt.alloc(), text)?;
-        same(&rt, &told.as_slice(), &wanted.as_bytes(), &text);
+        same(&rt, &told.as_slice(), &wanted.as_bytes(), text);
     }
     Ok(())
 }

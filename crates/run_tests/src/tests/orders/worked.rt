@@ -28,7 +28,7 @@ const BETWEEN: &str =
 const MAKES_LATE: &str = "0 takes 5\n0 new 1 14 = 0.0\n1 takes 5\n1 gives back 5\n";
 
 /// The logs hold fourteen entries with leaves and cycle, so that fifteen steps find an order where none is taken back.
-const ROWS: [Row; 9] = [
+const ROWS: &[Row] = &[
     (BETWEEN, Some(11), 15, End::Found),
     (BETWEEN, Some(11), 4, End::RanOut),
     (MAKES_LATE, Some(16), 15, End::RanOut),
@@ -105,7 +105,7 @@ fn is_searched(rt: &impl Abort, alloc: Global, heap: Heap, row: &Row) -> Result<
 fn finds_orders_of_worked_logs(rt: HostRuntime) -> Result<(), Fail> {
     let heap = Heap::make(1, 0, 2, 32).ok_or("the limits")?;
     for row in ROWS {
-        is_searched(&rt, rt.alloc(), heap, &row)?;
+        is_searched(&rt, rt.alloc(), heap, row)?;
     }
     Ok(())
 }

@@ -137,7 +137,7 @@ const UNMADE: &str =
     "history 2 run\nheap 1 0 1 47\n0 new 15 2 = full need 1 found 0\n0 leave = ok\nend used 16\n";
 
 /// Histories, each with what is told of it.
-const HISTORIES: [(&str, &str, &[ToldCall]); 3] = [
+const HISTORIES: &[(&str, &str, &[ToldCall])] = &[
     ("one seat", ALONE, &TOLD_ALONE),
     ("two seats", BETWEEN, &TOLD_BETWEEN),
     ("no queue", UNMADE, &[]),
@@ -147,7 +147,7 @@ const HISTORIES: [(&str, &str, &[ToldCall]); 3] = [
 fn tells_of_puts_and_takes(rt: HostRuntime) -> Result<(), Fail> {
     for (what, text, wanted) in HISTORIES {
         let found = told_of(rt.alloc(), text)?;
-        same(&rt, &found.as_slice(), &wanted, &what);
+        same(&rt, &found.as_slice(), wanted, what);
     }
     Ok(())
 }
