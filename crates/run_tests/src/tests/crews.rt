@@ -4,15 +4,14 @@ ghost use Rattle.heap_model.specs.Heap.{IsHeap};
 ghost use Rattle.script_crew.specs.Jobs.{AreJobs, IsJob, command_count};
 ghost use Rattle.script_crew.specs.Runs.{job_numbers};
 
+use super::comparing::{holds, same};
 use super::meeting::Meeting;
-use collector_turns::Collector;
-use core_machine::Log;
+use super::opened::opened;
 use heap_model::{Command, Entry, Gate, Heap, Memory, OpenGate};
-use heap_runs::seats_of;
-use heap_table::HeapTable;
 use script_crew::{CrewRan, Job, JobRun, run_crew};
 use slack_pace::Steady;
 use std::alloc::Global;
+use std::process::Abort;
 use std::sync::Wait;
 use std::test::Fail;
 use std::thread::Threads;
@@ -69,72 +68,116 @@ fn ran_by<G: Gate, R: Threads + Wait + Sync>(
     requires some { 0 < length jobs.now }
     requires jobs { AreJobs jobs.now }
 {
-    let (holders, collector) = HeapTable::make::<Log, Log>(alloc, heap)?;
-    let seats = seats_of(alloc, holders)?;
     let pace = Box::new(alloc, Steady)?;
-    run_crew(
-        rt,
-        alloc,
-        seats,
-        Collector::make(collector),
-        jobs,
-        pace,
-        gate,
-    )
+    let (seats, collector) = opened(alloc, heap)?;
+    run_crew(rt, alloc, seats, collector, jobs, pace, gate)
 }
 
-/// Whether from the run's `from` up to its `to` the seat's log has the job's commands, each followed by a poll.
-fn tells(ran: &CrewRan, run: &JobRun, job: &Job) -> bool {
+/// What the seat's log has from the run's `from` up to its `to`.
+fn part_of<'a>(ran: &'a CrewRan, run: &JobRun) -> &'a [Entry] {
     let Some(log) = ran.closed.logs().get(run.seat as usize) else {
-        return false;
+        return &[];
     };
-    let mut rest = job.commands.iter();
-    let mut polls = true;
-    for entry in log
-        .iter()
-        .skip(run.from as usize)
-        .take((run.to - run.from.min(run.to)) as usize)
-    {
+    let (before, _) = log.split_at(log.len().min(run.to as usize));
+    let (_, part) = before.split_at(before.len().min(run.from as usize));
+    part
+}
+
+/// The commands of which the entries tell.
+fn commands_of(alloc: Global, entries: &[Entry]) -> Result<Vec<Command>, Memory> {
+    let mut commands = Vec::new(alloc);
+    for entry in entries {
         if let Entry::Said { command, .. } = *entry {
-            polls = !polls;
-            if polls != (command == Command::Poll) || !polls && rest.next() != Some(&command) {
-                return false;
-            }
+            commands.push(command)?;
         }
     }
-    polls && rest.next().is_none()
+    Ok(commands)
+}
+
+/// The job's commands, each followed by a poll.
+fn with_polls(alloc: Global, job: &Job) -> Result<Vec<Command>, Memory> {
+    let mut commands = Vec::new(alloc);
+    for command in job.commands.as_slice() {
+        commands.push(*command)?;
+        commands.push(Command::Poll)?;
+    }
+    Ok(commands)
+}
+
+/// So many jobs that a crew may be given.
+fn crew_jobs(rt: &(impl Abort + AllocGlobal), count: u32) -> Result<Vec<Job>, Memory>
+    requires { count ≤ 64 }
+    ensures some { IfOk result (λ jobs. 0 < length jobs.items) }
+    ensures jobs { IfOk result (λ jobs. AreJobs jobs.items) }
+{
+    let jobs = some_jobs(rt.alloc(), count)?;
+    holds(rt, !jobs.is_empty(), &count);
+    holds(rt, jobs.len() <= 4096, &count);
+    holds(rt, do_rise(jobs.as_slice()), &count);
+    Ok(jobs)
+}
+
+/// The run is one of the job, whose commands stand in its part of its seat's log, each followed by a poll.
+fn runs(
+    rt: &impl Abort,
+    alloc: Global,
+    ran: &CrewRan,
+    run: &JobRun,
+    job: &Job,
+) -> Result<(), Memory> {
+    same(rt, &run.job, &job.number, &job.number);
+    let told = commands_of(alloc, part_of(ran, run))?;
+    let wanted = with_polls(alloc, job)?;
+    same(rt, &told.as_slice(), &wanted.as_slice(), &job.number);
+    Ok(())
+}
+
+/// The nine jobs are each run once.
+fn each_is_run(
+    rt: &impl Abort,
+    alloc: Global,
+    ran: &CrewRan,
+    jobs: &[Job],
+    count: u8,
+) -> Result<(), Fail> {
+    same(rt, &ran.runs.len(), &9, &count);
+    for (run, job) in ran.runs.as_slice().iter().zip(jobs) {
+        runs(rt, alloc, ran, run, job)?;
+    }
+    Ok(())
+}
+
+/// A crew of so many seats runs them.
+fn crew_runs_each<R: Abort + Threads + Wait + Sync>(
+    rt: &R,
+    alloc: Global,
+    jobs: &[Job],
+    count: u8,
+) -> Result<(), Fail>
+    requires some { 0 < length jobs.now }
+    requires jobs { AreJobs jobs.now }
+{
+    let heap = Heap::make(1, 0, count, 32).ok_or("a heap")?;
+    let ran = ran_by(rt, alloc, heap, jobs, &OpenGate)?;
+    each_is_run(rt, alloc, &ran, jobs, count)
 }
 
 #[test]
 fn each_job_is_run_once(rt: HostRuntime) -> Result<(), Fail> {
-    let alloc = rt.alloc();
-    let jobs = some_jobs(alloc, 9)?;
-    assert!(rt; !jobs.is_empty());
-    assert!(rt; jobs.len() <= 4096);
-    assert!(rt; do_rise(jobs.as_slice()));
+    let jobs = crew_jobs(&rt, 9)?;
     for count in 1..5u8 {
-        let heap = Heap::make(1, 0, count, 32).ok_or("a heap")?;
-        let ran = ran_by(&rt, alloc, heap, jobs.as_slice(), &OpenGate)?;
-        assert_eq!(rt; ran.runs.len(), 9);
-        for (run, job) in ran.runs.as_slice().iter().zip(jobs.as_slice()) {
-            assert_eq!(rt; run.job, job.number);
-            assert!(rt; tells(&ran, run, job));
-        }
+        crew_runs_each(&rt, rt.alloc(), jobs.as_slice(), count)?;
     }
     Ok(())
 }
 
 #[test]
 fn two_at_once(rt: HostRuntime) -> Result<(), Fail> {
-    let alloc = rt.alloc();
-    let jobs = some_jobs(alloc, 2)?;
-    assert!(rt; !jobs.is_empty());
-    assert!(rt; jobs.len() <= 4096);
-    assert!(rt; do_rise(jobs.as_slice()));
+    let jobs = crew_jobs(&rt, 2)?;
     let heap = Heap::make(1, 0, 2, 32).ok_or("a heap")?;
     let gate = Meeting::new();
-    let ran = ran_by(&rt, alloc, heap, jobs.as_slice(), &gate)?;
-    assert_eq!(rt; ran.runs.len(), 2);
-    assert!(rt; gate.met());
+    let ran = ran_by(&rt, rt.alloc(), heap, jobs.as_slice(), &gate)?;
+    same(&rt, &ran.runs.len(), &2, &"the runs");
+    holds(&rt, gate.met(), &"two seats at work");
     Ok(())
 }

@@ -5,18 +5,18 @@ ghost use Rattle.heap_model.specs.Heap.{IsHeap};
 mod table;
 
 use super::comparing::holds;
-use super::script_of;
+use super::{played, script_of};
 use heap_model::phase_plan::{CYCLE_PHASES, REST};
 use heap_model::{CollectorCalls, Command, Entry, Memory};
-use heap_runs::{MachineHeap, play};
 use script_text::Script;
 use std::alloc::Global;
+use std::process::Abort;
 use std::test::Fail;
 use table::OneTable;
 
 /// Worked scripts: an empty one; refusals with a reserve and without one; scattered fragments; fields, lengths and registers at their ends; arrays, their
 /// budget and its return; a cell that is read across a copy of its spine; two seats of which one is behind; the barriers; objects that lead to one another; the board as a root.
-const SCRIPTS: [&str; 18] = [
+const SCRIPTS: &[&str] = &[
     "heap 1 0 1\n",
     "heap 1 0 1\n0 new 1 2\n",
     "heap 1 0 1\n0 new 1 2\n0 new 2 47\n0 len 1\n",
@@ -39,7 +39,7 @@ const SCRIPTS: [&str; 18] = [
 
 /// Worked scripts of version 2: compare and swap on a board of two fields, with its replies, and while the barrier is on; boards that leave room, and one that leaves none; two seats that swap
 /// one field; and a record that hangs on the last field of a board.
-const SECOND_SCRIPTS: [&str; 5] = [
+const SECOND_SCRIPTS: &[&str] = &[
     "heap 1 0 1 2\n0 num 1 7\n0 cas 0 1 5 1\n0 cas 0 1 5 1\n0 get 2 0 1\n0 num 3 8\n0 cas 0 1 2 3\n0 cas 0 2 5 1\n0 cas 9 0 5 1\n",
     "heap 2 0 1 1\n0 new 1 2\n0 new 2 2\n0 set 0 0 1\n0 get 3 0 0\nc cycle\n0 poll\nc cycle\n0 cas 0 0 3 2\n0 nil 1\n0 nil 2\n0 nil 3\n0 collect\n0 get 4 0 0\n",
     "heap 1 0 1 47\n0 len 0\n0 new 1 1\n0 set 0 46 0\n0 get 1 0 46\n",
@@ -47,11 +47,8 @@ const SECOND_SCRIPTS: [&str; 5] = [
     "heap 1 4 1 46\n0 array 1 1\n0 set 0 45 0\n0 collect\n0 get 2 0 45\n",
 ];
 
-/// What the parties of one table tell of the script, of the seats' leaves, and of a last whole cycle.
-fn told_by_one_table(alloc: Global, script: &Script) -> Result<Vec<Entry>, Memory>
-    requires { IsHeap script.now.heap }
-{
-    let mut table = OneTable::opening(alloc, script.heap)?;
+/// The parties of one table play the script, the seats' leaves, and a last whole cycle.
+fn play_all(table: &mut OneTable, script: &Script) -> Result<(), Memory> {
     for line in script.lines.as_slice() {
         table.play(line)?;
     }
@@ -61,7 +58,15 @@ fn told_by_one_table(alloc: Global, script: &Script) -> Result<Vec<Entry>, Memor
     if table.collector.phase() % CYCLE_PHASES != REST {
         table.cycle()?;
     }
-    table.cycle()?;
+    table.cycle()
+}
+
+/// What they tell of that.
+fn told_by_one_table(alloc: Global, script: &Script) -> Result<Vec<Entry>, Memory>
+    requires { IsHeap script.now.heap }
+{
+    let mut table = OneTable::opening(alloc, script.heap)?;
+    play_all(&mut table, script)?;
     Ok(table.told)
 }
 
@@ -80,8 +85,7 @@ fn are_those_of(told: &[Entry], entries: &[Entry]) -> bool {
 fn tell_the_same(alloc: Global, text: &str) -> Result<bool, Fail> {
     let script = script_of(alloc, text)?;
     let told = told_by_one_table(alloc, &script)?;
-    let whole = MachineHeap::make(alloc, script.heap)?;
-    let history = play(whole, script.heap, &script, None)?;
+    let history = played(alloc, &script, None)?;
     Ok(are_those_of(told.as_slice(), history.entries.as_slice()))
 }
 
@@ -91,14 +95,21 @@ fn tell_lines_the_same(alloc: Global, version: &str, lines: &str) -> Result<bool
     tell_the_same(alloc, &text)
 }
 
-#[test]
-fn one_table_tells_what_the_machine_tells(rt: HostRuntime) -> Result<(), Fail> {
-    let alloc = rt.alloc();
-    for lines in SCRIPTS {
-        holds(&rt, tell_lines_the_same(alloc, "1", lines)?, &lines);
-    }
-    for lines in SECOND_SCRIPTS {
-        holds(&rt, tell_lines_the_same(alloc, "2", lines)?, &lines);
+/// They do so of each of the scripts of this version.
+fn all_tell_the_same(
+    rt: &impl Abort,
+    alloc: Global,
+    version: &str,
+    scripts: &[&str],
+) -> Result<(), Fail> {
+    for lines in scripts {
+        holds(rt, tell_lines_the_same(alloc, version, lines)?, lines);
     }
     Ok(())
+}
+
+#[test]
+fn one_table_tells_what_the_machine_tells(rt: HostRuntime) -> Result<(), Fail> {
+    all_tell_the_same(&rt, rt.alloc(), "1", SCRIPTS)?;
+    all_tell_the_same(&rt, rt.alloc(), "2", SECOND_SCRIPTS)
 }

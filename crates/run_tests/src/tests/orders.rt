@@ -6,9 +6,8 @@ ghost use Rattle.script_text.specs.Made.{most_start};
 
 use super::comparing::{holds, same};
 use heap_model::{Entry, Heap, Reply};
-use order::stands;
 use running::{Run, run_from};
-use search::{End, order_of};
+use search::{End, searched};
 use std::alloc::Global;
 use std::process::Abort;
 use std::sync::Wait;
@@ -80,9 +79,9 @@ fn has_order(rt: &impl Abort, alloc: Global, heap: Heap, run: &Run, start: u32) 
     requires { IsHeap heap }
 {
     let logs = run.closed.logs();
-    let (end, order) = order_of(alloc, heap, logs, &run.begun, MOST_STEPS)?;
+    let (end, stands) = searched(alloc, heap, logs, &run.begun, MOST_STEPS)?;
     same(rt, &end, &End::Found, &start);
-    holds(rt, stands(alloc, heap, logs, &order)?, &start);
+    holds(rt, stands, &start);
     Ok(())
 }
 

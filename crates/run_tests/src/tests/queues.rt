@@ -6,18 +6,16 @@ ghost use Rattle.heap_queue.specs.SeatScripts.{IsOfQueue};
 
 use super::comparing::{holds, same};
 use super::meeting::Meeting;
-use collector_turns::Collector;
-use core_machine::Log;
+use super::opened::opened;
 use heap_model::{Gate, Heap, Memory, OpenGate, Value};
 use heap_queue::{
     PutReply, QueueFault, QueueRan, QueueScript, TakeReply, Told, ToldCall, read_queue, run_queue,
     scripts_of, tell_calls,
 };
-use heap_runs::seats_of;
-use heap_table::HeapTable;
 use log_merge::merge;
 use slack_pace::{Pace, Steady};
 use std::alloc::{AllocError, Global};
+use std::process::Abort;
 use std::sync::Wait;
 use std::test::Fail;
 use std::thread::Threads;
@@ -42,9 +40,7 @@ fn ran_by<G: Gate, R: Threads + Wait + Sync>(
     ensures { IfOk result (λ ran. ran.closed.heap ≡ script.now.heap) }
 {
     let scripts = scripts_of(alloc, script)?;
-    let (holders, collector) = HeapTable::make::<Log, Log>(alloc, script.heap)?;
-    let seats = seats_of(alloc, holders)?;
-    let collector = Collector::make(collector);
+    let (seats, collector) = opened(alloc, script.heap)?;
     run_queue(rt, alloc, seats, collector, scripts.as_slice(), pace, gate)
 }
 
@@ -57,9 +53,30 @@ fn told(alloc: Global, heap: Heap, ran: &QueueRan) -> Result<Vec<ToldCall>, Memo
     tell_calls(alloc, heap, history.as_slice())
 }
 
-/// A put or take of the first seat.
-fn call(told: Told) -> ToldCall {
-    ToldCall { seat: 0, told }
+/// What the puts and takes of the queue of this text come to.
+fn calls_of<R: Threads + Wait + Sync>(
+    rt: &R,
+    alloc: Global,
+    text: &[u8],
+) -> Result<Vec<ToldCall>, Fail> {
+    let script = script_of(alloc, text)?;
+    let pace = Box::new(alloc, Steady)?;
+    let Ok(ran) = ran_by(rt, alloc, &script, pace, &OpenGate) else {
+        return Err("a run")?;
+    };
+    Ok(told(alloc, script.heap, &ran)?)
+}
+
+/// The fault of a run of the queue of this text, if it has one.
+fn fault_of<G: Gate, R: Threads + Wait + Sync>(
+    rt: &R,
+    alloc: Global,
+    text: &[u8],
+    gate: &G,
+) -> Result<Option<QueueFault>, Fail> {
+    let script = script_of(alloc, text)?;
+    let pace = Box::new(alloc, Steady)?;
+    Ok(ran_by(rt, alloc, &script, pace, gate).err())
 }
 
 /// A put of this number that came through.
@@ -77,54 +94,72 @@ fn took(number: u32) -> Told {
     Told::Took { value }
 }
 
+const ALONE: &[u8] = b"queue 1\nheap 2 0 1 32\n0 take\n0 put 5\n0 put 6\n0 take\n0 take\n0 take\n";
+
 /// A take that found nothing.
-const NOTHING: Told = Told::Take {
-    reply: TakeReply::Empty,
+const NOTHING: ToldCall = ToldCall {
+    seat: 0,
+    told: Told::Take {
+        reply: TakeReply::Empty,
+    },
 };
 
-const ALONE: &[u8] = b"queue 1\nheap 2 0 1 32\n0 take\n0 put 5\n0 put 6\n0 take\n0 take\n0 take\n";
+/// The numbers that the seat puts and takes.
+const FIVE: Value = Value::Number(5);
+
+const SIX: Value = Value::Number(6);
+
+/// What its puts and takes come to.
+const TOLD_ALONE: [ToldCall; 6] = [
+    NOTHING,
+    ToldCall {
+        seat: 0,
+        told: Told::Put {
+            value: FIVE,
+            reply: PutReply::Ok,
+        },
+    },
+    ToldCall {
+        seat: 0,
+        told: Told::Put {
+            value: SIX,
+            reply: PutReply::Ok,
+        },
+    },
+    ToldCall {
+        seat: 0,
+        told: Told::Took { value: FIVE },
+    },
+    ToldCall {
+        seat: 0,
+        told: Told::Took { value: SIX },
+    },
+    NOTHING,
+];
 
 #[test]
 fn takes_what_it_put(rt: HostRuntime) -> Result<(), Fail> {
-    let alloc = rt.alloc();
-    let script = script_of(alloc, ALONE)?;
-    let pace = Box::new(alloc, Steady)?;
-    let Ok(ran) = ran_by(&rt, alloc, &script, pace, &OpenGate) else {
-        return Err("a run")?;
-    };
-    let calls = told(alloc, script.heap, &ran)?;
-    let wanted = [
-        call(NOTHING),
-        call(put(5)),
-        call(put(6)),
-        call(took(5)),
-        call(took(6)),
-        call(NOTHING),
-    ];
-    same(&rt, &calls.as_slice(), &wanted.as_slice(), &"one seat");
+    let calls = calls_of(&rt, rt.alloc(), ALONE)?;
+    same(&rt, &calls.as_slice(), &TOLD_ALONE.as_slice(), &"one seat");
     Ok(())
 }
 
 #[test]
 fn two_at_once(rt: HostRuntime) -> Result<(), Fail> {
-    let alloc = rt.alloc();
-    let script = script_of(alloc, b"queue 1\nheap 4 0 2 2\n0 put 1\n1 take\n")?;
-    let pace = Box::new(alloc, Steady)?;
     let gate = Meeting::new();
-    let ran = ran_by(&rt, alloc, &script, pace, &gate);
-    holds(&rt, ran.is_ok(), &"a run");
+    let text = b"queue 1\nheap 4 0 2 2\n0 put 1\n1 take\n";
+    let fault = fault_of(&rt, rt.alloc(), text, &gate)?;
+    same(&rt, &fault, &None, &"a run");
     holds(&rt, gate.met(), &"two seats at work");
     Ok(())
 }
 
 #[test]
 fn no_room(rt: HostRuntime) -> Result<(), Fail> {
-    let alloc = rt.alloc();
     // The board has all fragments of the heap.
-    let script = script_of(alloc, b"queue 1\nheap 1 0 2 47\n0 put 1\n1 take\n")?;
-    let pace = Box::new(alloc, Steady)?;
+    let text = b"queue 1\nheap 1 0 2 47\n0 put 1\n1 take\n";
     let wanted = QueueFault::Full { need: 1, found: 0 };
-    let fault = ran_by(&rt, alloc, &script, pace, &OpenGate).err();
+    let fault = fault_of(&rt, rt.alloc(), text, &OpenGate)?;
     same(&rt, &fault, &Some(wanted), &"the fault");
     Ok(())
 }
@@ -139,26 +174,28 @@ fn passed_on(alloc: Global) -> Result<Vec<u8>, AllocError> {
     Ok(text)
 }
 
-#[test]
-fn takes_in_the_order_of_puts(rt: HostRuntime) -> Result<(), Fail> {
-    let alloc = rt.alloc();
-    let script = script_of(alloc, passed_on(alloc)?.as_slice())?;
-    let pace = Box::new(alloc, Steady)?;
-    let Ok(ran) = ran_by(&rt, alloc, &script, pace, &OpenGate) else {
-        return Err("a run")?;
-    };
+/// Numbers are taken in the order in which they are put, from 0 on, and none before it is put. How many are put.
+fn puts_in_order(rt: &impl Abort, calls: &[ToldCall]) -> u32 {
     let mut puts = 0u32;
     let mut takes = 0u32;
-    for call in told(alloc, script.heap, &ran)? {
+    for call in calls {
         if puts < 200 && call.told == put(puts) {
             puts += 1;
         }
         if let Told::Took { .. } = call.told {
-            holds(&rt, takes < puts, &"the put of a number before its take");
-            same(&rt, &call.told, &took(takes), &takes);
+            holds(rt, takes < puts, &"the put of a number before its take");
+            same(rt, &call.told, &took(takes), &takes);
             takes += 1;
         }
     }
+    puts
+}
+
+#[test]
+fn takes_in_the_order_of_puts(rt: HostRuntime) -> Result<(), Fail> {
+    let text = passed_on(rt.alloc())?;
+    let calls = calls_of(&rt, rt.alloc(), text.as_slice())?;
+    let puts = puts_in_order(&rt, calls.as_slice());
     same(&rt, &puts, &200, &"the puts");
     Ok(())
 }

@@ -5,11 +5,10 @@ ghost use Rattle.heap_table.specs.Opened.{IsOpened};
 ghost use Rattle.heap_runs.specs.CollectCall.{IsPresent};
 
 use super::comparing::same;
+use super::opened::opened;
 use collector_turns::Collector;
-use core_machine::Log;
 use heap_model::{CollectReply, Heap, Memory, SeatCalls};
 use heap_runs::{Held, HeldName, collect_call};
-use heap_table::{CollectorHolder, HeapTable, Holder};
 use mutator_seat::Seat;
 use slack_pace::{Pace, Steady};
 use std::alloc::Global;
@@ -35,21 +34,39 @@ fn collect_named<N: HeldName, R: Wait>(
     collect_call(rt, seat, &held, patience)
 }
 
-/// The table's seat 0.
-fn first_seat(collector: &CollectorHolder, holders: Vec<Holder>) -> Result<Seat, Fail>
-    requires opened { All (IsOpened collector.now.table collector.now.heap) holders.items }
-    ensures table { IfOk result (λ seat. seat.table ≡ collector.now.table) }
-    ensures heap { IfOk result (λ seat. seat.heap ≡ collector.now.heap) }
+/// The table's seat 0, which hasn't left.
+fn first_seat(collector: &Collector, seats: Vec<Seat>) -> Result<Seat, Fail>
+    requires opened { All (IsOpened collector.now.holder.table collector.now.holder.heap) seats.items }
+    ensures table { IfOk result (λ seat. seat.table ≡ collector.now.holder.table) }
+    ensures heap { IfOk result (λ seat. seat.heap ≡ collector.now.holder.heap) }
+    ensures present { IfOk result IsPresent }
 {
-    for holder in holders {
-        if holder.number() == 0 {
-            return Ok(Seat::make(holder));
+    for seat in seats {
+        if seat.number() == 0 && !seat.left() {
+            return Ok(seat);
         }
     }
     Err(Fail::from("a seat"))
 }
 
-/// What a collect of the first of so many seats is answered on a table that opens, and how often that seat has found others behind then.
+/// What a collect of the seat on its table is answered, and how often the seat has found others behind then.
+fn collect_of<R: Wait>(
+    rt: &R,
+    collector: Collector,
+    seat: &mut Seat,
+    pace: Box<dyn Pace>,
+    patience: u32,
+) -> Result<(CollectReply, u64), Fail>
+    requires table { seat.old.table ≡ collector.holder.table }
+    requires heap { seat.old.heap ≡ collector.holder.heap }
+    requires present { IsPresent seat.old }
+    requires patience { 1 ≤ patience }
+{
+    let reply = collect_named::<Brand, R>(rt, collector, seat, pace, patience)?;
+    Ok((reply, seat.waits()))
+}
+
+/// What a collect of the first of so many seats comes to on a table that opens.
 fn first_collect<R: Wait>(
     rt: &R,
     alloc: Global,
@@ -59,20 +76,10 @@ fn first_collect<R: Wait>(
     requires { 1 ≤ patience }
 {
     let heap = Heap::make(1, 0, seats, 32).ok_or("a heap")?;
-    let (holders, collector) = HeapTable::make::<Log, Log>(alloc, heap)?;
-    let mut seat = first_seat(&collector, holders)?;
-    if seat.left() {
-        return Err(Fail::from("a seat that is there"));
-    }
     let pace = Box::new(alloc, Steady)?;
-    let reply = collect_named::<Brand, R>(
-        rt,
-        Collector::make(collector),
-        &mut seat,
-        pace,
-        patience,
-    )?;
-    Ok((reply, seat.waits()))
+    let (seats, collector) = opened(alloc, heap)?;
+    let mut seat = first_seat(&collector, seats)?;
+    collect_of(rt, collector, &mut seat, pace, patience)
 }
 
 #[test]

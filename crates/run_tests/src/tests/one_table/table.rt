@@ -1,19 +1,18 @@
 //! The seats and the collector of one table, which one thread lets work.
 
-ghost use Rattle.std.specs.Prelude.{◌≡◌, IsTrue};
+ghost use Rattle.std.specs.Prelude.{◌≡◌, IfOk, IsTrue};
 ghost use Rattle.core_machine.specs.seat.Commands.{IsServed};
 ghost use Rattle.heap_model.specs.Heap.{IsHeap};
 ghost use Rattle.heap_model.specs.calls.SeatCalls.{IsReady};
 ghost use Rattle.mutator_seat.specs.InnerCalls.{MayCollect};
 ghost use Rattle.mutator_seat.specs.Resting.{seat_state};
 
+use crate::tests::opened::opened;
 use collector_turns::Collector;
-use core_machine::Log;
 use heap_model::phase_plan::CYCLE_PHASES;
 use heap_model::{
     CollectReply, CollectorCalls, Command, Entry, Heap, Inner, Memory, SeatCalls, Turn, TurnCommand,
 };
-use heap_table::HeapTable;
 use mutator_seat::Seat;
 use script_text::Line;
 use std::alloc::Global;
@@ -51,11 +50,78 @@ fn may_call(seat: &Seat, command: &Command) -> bool
         && counts
 }
 
-/// Whether the seat may make an inner call.
-fn may_collect(seat: &Seat) -> bool
-    ensures { IsTrue result → MayCollect (seat_state seat.now) }
+/// Makes a whole call of the seat, if it may be made.
+fn call_seat(seat: &mut Seat, command: &Command) -> Result<(), Memory> {
+    seat.room(2 * command.need() as usize + 4)?;
+    if may_call(seat, command) {
+        seat.call(command);
+    }
+    Ok(())
+}
+
+/// Makes room for an inner call of the seat, and tells whether the seat may make one.
+fn may_collect(seat: &mut Seat) -> Result<bool, Memory>
+    ensures { IfOk result (λ may. IsTrue may → MayCollect (seat_state seat.new)) }
 {
-    !seat.left() && seat.spare() >= 4
+    seat.room(4)?;
+    Ok(!seat.left() && seat.spare() >= 4)
+}
+
+/// The phase, as the seat finds it.
+fn look(seat: &mut Seat) -> Result<u64, Memory> {
+    if may_collect(seat)? {
+        Ok(seat.look())
+    } else {
+        Ok(0)
+    }
+}
+
+/// Lets the seat answer the phase.
+fn answer(seat: &mut Seat) -> Result<(), Memory> {
+    if may_collect(seat)? {
+        seat.answer();
+    }
+    Ok(())
+}
+
+/// What the seat notes that waits for another one, if it finds that one behind.
+fn wait_for(seat: &mut Seat, other: u8) -> Result<Option<CollectReply>, Memory> {
+    if !may_collect(seat)? || !seat.may_make(&Inner::Behind { seat: other }) {
+        return Ok(None);
+    }
+    let Some((answered, phase)) = seat.behind(other) else {
+        return Ok(None);
+    };
+    Ok(Some(CollectReply::Waits {
+        seat: other,
+        answered,
+        phase,
+    }))
+}
+
+/// Notes the reply of the seat's collect, if what it has found allows it.
+fn finish(seat: &mut Seat, reply: CollectReply) -> Result<(), Memory> {
+    if may_collect(seat)? && seat.may_make(&Inner::Note(reply)) {
+        seat.note(reply);
+    }
+    Ok(())
+}
+
+/// What a seat does that its log may tell.
+#[derive(Drop)]
+enum Deed<'a> {
+    Call(&'a Command),
+    Answer,
+    Finish(CollectReply),
+}
+
+/// Lets the seat do it.
+fn make(seat: &mut Seat, deed: Deed) -> Result<(), Memory> {
+    match deed {
+        Deed::Call(command) => call_seat(seat, command),
+        Deed::Answer => answer(seat),
+        Deed::Finish(reply) => finish(seat, reply),
+    }
 }
 
 impl OneTable {
@@ -63,29 +129,27 @@ impl OneTable {
     pub fn opening(alloc: Global, heap: Heap) -> Result<OneTable, Memory>
         requires { IsHeap heap }
     {
-        let (holders, collector) = HeapTable::make::<Log, Log>(alloc, heap)?;
-        let mut seats = Vec::new(alloc);
-        for holder in holders {
-            seats.push(Seat::make(holder))?;
-        }
+        let (seats, collector) = opened(alloc, heap)?;
         Ok(OneTable {
             seats,
-            collector: Collector::make(collector),
+            collector,
             told: Vec::new(alloc),
         })
     }
 
-    /// Makes a whole call of the seat, if it may be made.
-    pub fn call(&mut self, number: u8, command: &Command) -> Result<(), Memory> {
+    /// Lets the seat do it, and notes what its log has of that.
+    fn step(&mut self, number: u8, deed: Deed) -> Result<(), Memory> {
         let Some(seat) = self.seats.get_mut(number as usize) else {
             return Ok(());
         };
-        seat.room(2 * command.need() as usize + 4)?;
         let before = seat.log().len();
-        if may_call(seat, command) {
-            seat.call(command);
-        }
+        make(seat, deed)?;
         note(&mut self.told, seat.log(), before)
+    }
+
+    /// Makes a whole call of the seat, if it may be made.
+    pub fn call(&mut self, number: u8, command: &Command) -> Result<(), Memory> {
+        self.step(number, Deed::Call(command))
     }
 
     /// Makes a turn.
@@ -122,59 +186,18 @@ impl OneTable {
 
     /// The phase, as the seat finds it.
     fn look(&mut self, number: u8) -> Result<u64, Memory> {
-        let Some(seat) = self.seats.get_mut(number as usize) else {
-            return Ok(0);
-        };
-        seat.room(4)?;
-        if may_collect(seat) {
-            Ok(seat.look())
-        } else {
-            Ok(0)
+        match self.seats.get_mut(number as usize) {
+            Some(seat) => look(seat),
+            None => Ok(0),
         }
-    }
-
-    /// Lets the seat answer the phase.
-    fn answer(&mut self, number: u8) -> Result<(), Memory> {
-        let Some(seat) = self.seats.get_mut(number as usize) else {
-            return Ok(());
-        };
-        seat.room(4)?;
-        let before = seat.log().len();
-        if may_collect(seat) {
-            seat.answer();
-        }
-        note(&mut self.told, seat.log(), before)
     }
 
     /// What the seat notes that waits for another one, if it finds that one behind.
     fn wait_for(&mut self, number: u8, other: u8) -> Result<Option<CollectReply>, Memory> {
-        let Some(seat) = self.seats.get_mut(number as usize) else {
-            return Ok(None);
-        };
-        seat.room(4)?;
-        if !may_collect(seat) || !seat.may_make(&Inner::Behind { seat: other }) {
-            return Ok(None);
+        match self.seats.get_mut(number as usize) {
+            Some(seat) => wait_for(seat, other),
+            None => Ok(None),
         }
-        Ok(
-            seat.behind(other).map(|(answered, phase)| CollectReply::Waits {
-                seat: other,
-                answered,
-                phase,
-            }),
-        )
-    }
-
-    /// Notes the reply of the seat's collect, if what it has found allows it.
-    fn finish(&mut self, number: u8, reply: CollectReply) -> Result<(), Memory> {
-        let Some(seat) = self.seats.get_mut(number as usize) else {
-            return Ok(());
-        };
-        seat.room(4)?;
-        let before = seat.log().len();
-        if may_collect(seat) && seat.may_make(&Inner::Note(reply)) {
-            seat.note(reply);
-        }
-        note(&mut self.told, seat.log(), before)
     }
 
     /// A collect of the seat, of inner calls and turns: for the first cycle that begins behind its first look; it waits once it has found another seat behind.
@@ -183,13 +206,13 @@ impl OneTable {
         for _ in 0..MANY {
             if let Turn::Waits { seat, .. } = self.turn()? {
                 if seat == number {
-                    self.answer(number)?;
+                    self.step(number, Deed::Answer)?;
                 } else if let Some(reply) = self.wait_for(number, seat)? {
-                    return self.finish(number, reply);
+                    return self.step(number, Deed::Finish(reply));
                 }
             }
             if self.look(number)? / CYCLE_PHASES > target {
-                return self.finish(number, CollectReply::Cycle(target));
+                return self.step(number, Deed::Finish(CollectReply::Cycle(target)));
             }
         }
         Ok(())

@@ -7,7 +7,7 @@ use std::alloc::Global;
 const MOST_ENTRIES: u64 = 1_000_000;
 
 /// What the books say of an entry.
-#[derive(Clone, Copy, Debug, PartialEq)]
+#[derive(Clone, Copy)]
 pub(super) enum Verdict {
     /// Both have counted it.
     Accepted,

@@ -7,26 +7,46 @@ use std::alloc::Global;
 /// The number of the log that each entry comes from.
 pub(super) type Order = Vec<usize>;
 
+/// How many entries of the log are in the order.
+fn placed_of(order: &[usize], number: usize) -> usize {
+    let mut placed = 0usize;
+    for other in order {
+        if *other == number {
+            placed = placed.saturating_add(1);
+        }
+    }
+    placed
+}
+
+/// The entries of the log that are in the order, and those that aren't yet.
+fn parts_of<'a>(
+    logs: &'a [Vec<Entry>],
+    order: &[usize],
+    number: usize,
+) -> (&'a [Entry], &'a [Entry]) {
+    let Some(log) = logs.get(number) else {
+        return (&[], &[]);
+    };
+    log.as_slice()
+        .split_at(log.len().min(placed_of(order, number)))
+}
+
 /// The entries of the log that aren't in the order yet.
 pub(super) fn rest_of<'a>(logs: &'a [Vec<Entry>], order: &[usize], number: usize) -> &'a [Entry] {
-    let Some(log) = logs.get(number) else {
-        return &[];
-    };
-    let placed = order.iter().filter(|other| **other == number).count();
-    let (_, rest) = log.as_slice().split_at(placed.min(log.len()));
+    let (_, rest) = parts_of(logs, order, number);
     rest
 }
 
 /// How many replies of the log are in the order.
 pub(super) fn replies_of(logs: &[Vec<Entry>], order: &[usize], number: usize) -> usize {
-    let Some(log) = logs.get(number) else {
-        return 0;
-    };
-    let placed = order.iter().filter(|other| **other == number).count();
-    log.iter()
-        .take(placed)
-        .filter(|entry| matches!(**entry, Entry::Said { .. }))
-        .count()
+    let (placed, _) = parts_of(logs, order, number);
+    let mut replies = 0usize;
+    for entry in placed {
+        if let Entry::Said { .. } = entry {
+            replies = replies.saturating_add(1);
+        }
+    }
+    replies
 }
 
 /// Whether each entry of each log is in the order.
@@ -39,29 +59,30 @@ pub(super) fn has_all(logs: &[Vec<Entry>], order: &[usize]) -> bool {
     true
 }
 
-/// The books that have counted the entries in this order; none where they don't accept one.
-pub(super) fn books_of(
-    alloc: Global,
-    heap: Heap,
+/// Whether the books accept the entries in this order, and have counted them then.
+pub(super) fn accept(
+    books: &mut Books,
     logs: &[Vec<Entry>],
     order: &[usize],
-) -> Result<Option<Books>, Memory>
-    requires { IsHeap heap }
-{
-    let mut books = Books::opening(alloc, heap)?;
+) -> Result<bool, Memory> {
     for (position, number) in order.iter().enumerate() {
         let (before, _) = order.split_at(position);
         let Some(entry) = rest_of(logs, before, *number).first() else {
-            return Ok(None);
+            return Ok(false);
         };
-        if books.judge(entry)? != Verdict::Accepted {
-            return Ok(None);
-        }
+        let Verdict::Accepted = books.judge(entry)? else {
+            return Ok(false);
+        };
     }
-    Ok(Some(books))
+    Ok(true)
 }
 
-/// Whether graph and account accept all entries of the logs in this order, and nothing is in use behind them.
+/// Whether the books accept all entries of the logs in this order, and nothing is in use behind them.
+fn agree(books: &mut Books, logs: &[Vec<Entry>], order: &[usize]) -> Result<bool, Memory> {
+    Ok(accept(books, logs, order)? && has_all(logs, order) && books.are_even())
+}
+
+/// Whether the books of a heap that opens do so.
 pub(super) fn stands(
     alloc: Global,
     heap: Heap,
@@ -70,8 +91,6 @@ pub(super) fn stands(
 ) -> Result<bool, Memory>
     requires { IsHeap heap }
 {
-    let Some(books) = books_of(alloc, heap, logs, order)? else {
-        return Ok(false);
-    };
-    Ok(has_all(logs, order) && books.are_even())
+    let mut books = Books::opening(alloc, heap)?;
+    agree(&mut books, logs, order)
 }

@@ -1,14 +1,14 @@
-ghost use Rattle.std.specs.Prelude.{◌≤◌};
+ghost use Rattle.std.specs.Prelude.{◌≡◌, ◌≤◌, All, length};
 ghost use Rattle.heap_model.specs.Heap.{IsHeap};
+ghost use Rattle.heap_runs.specs.SeatWork.{IsOfScript};
 ghost use Rattle.script_text.specs.Made.{most_start};
 
 use super::scripts::{MOST_COMMANDS, scripts_from};
 use super::together::Together;
-use collector_turns::Collector;
-use core_machine::Log;
+use crate::tests::opened::opened;
 use heap_model::{Command, Entry, Heap, Memory};
-use heap_runs::{run_seats, seats_of};
-use heap_table::{Closed, HeapTable};
+use heap_runs::run_seats;
+use heap_table::Closed;
 use slack_pace::Steady;
 use std::alloc::Global;
 use std::sync::Wait;
@@ -54,6 +54,27 @@ fn answers(log: &[Entry], script: &[Command]) -> bool {
     false
 }
 
+/// The table that the seats have closed with their scripts.
+fn closed_by<R: Threads + Wait + Sync>(
+    rt: &R,
+    alloc: Global,
+    heap: Heap,
+    scripts: &[Vec<Command>],
+    patience: u32,
+    gate: &Together,
+) -> Result<Closed, Memory>
+    requires heap { IsHeap heap }
+    requires patience { 1 ≤ patience }
+    requires seated { length scripts.now ≡ heap.seats }
+    requires short { All (λ script. length script.items ≤ 20) scripts.now }
+    requires each { All (λ script. All IsOfScript script.items) scripts.now }
+{
+    let pace = Box::new(alloc, Steady)?;
+    let (seats, collector) = opened(alloc, heap)?;
+    let ran = run_seats(rt, alloc, seats, collector, scripts, pace, patience, gate)?;
+    Ok(ran.closed)
+}
+
 /// Runs the scripts from this start on a shared table of the heap.
 pub(super) fn run_from<R: Threads + Wait + Sync>(
     rt: &R,
@@ -65,17 +86,11 @@ pub(super) fn run_from<R: Threads + Wait + Sync>(
     requires start { start ≤ most_start }
 {
     let scripts = scripts_from(alloc, start, heap.seats)?;
-    let (holders, collector) = HeapTable::make::<Log, Log>(alloc, heap)?;
-    let seats = seats_of(alloc, holders)?;
-    let collector = Collector::make(collector);
     let gate = Together::new(alloc, start % 2 == 1, 1 + start % 4, MOST_COMMANDS)?;
-    let pace = Box::new(alloc, Steady)?;
-    let patience = 1 + start % 50;
-    let commands = scripts.as_slice();
-    let ran = run_seats(rt, alloc, seats, collector, commands, pace, patience, &gate)?;
+    let closed = closed_by(rt, alloc, heap, scripts.as_slice(), 1 + start % 50, &gate)?;
     let begun = gate.order(alloc)?;
     Ok(Run {
-        closed: ran.closed,
+        closed,
         begun,
         scripts,
     })

@@ -1,7 +1,7 @@
 ghost use Rattle.heap_model.specs.Heap.{IsHeap};
 
 use super::books::{Books, Verdict};
-use super::order::{Order, books_of, has_all, replies_of, rest_of};
+use super::order::{Order, accept, has_all, replies_of, rest_of, stands};
 use super::waiting::is_behind;
 use heap_model::{Entry, Heap, Memory};
 use std::alloc::Global;
@@ -30,19 +30,30 @@ struct Search<'a> {
     ghost limits: { IsHeap heap },
 }
 
+/// Where the log stands in the order in which they are tried.
+fn tried_at(choices: &[usize], number: usize) -> usize {
+    for (position, other) in choices.iter().enumerate() {
+        if *other == number {
+            return position;
+        }
+    }
+    choices.len()
+}
+
 impl Search<'_> {
     /// The position at which the seat's next command was begun.
     fn begin_of(&self, seat: u8) -> usize {
         let made = replies_of(self.logs, &self.order, seat as usize);
-        let mut begins = self
-            .begun
-            .iter()
-            .enumerate()
-            .filter(|(_, other)| **other == seat);
-        match begins.nth(made) {
-            Some((position, _)) => position,
-            None => self.begun.len(),
+        let mut behind = 0usize;
+        for (position, other) in self.begun.iter().enumerate() {
+            if *other == seat {
+                if behind == made {
+                    return position;
+                }
+                behind = behind.saturating_add(1);
+            }
         }
+        self.begun.len()
     }
 
     /// The logs, in the order in which their next entries are tried: first the seat's whose command was begun first, then the collector's.
@@ -86,8 +97,8 @@ impl Search<'_> {
     /// Puts one more entry into the order: the first that is accepted of those that are tried behind so many others.
     fn place_one(&mut self, behind: usize) -> Result<bool, Memory> {
         let choices = self.choices();
-        for number in choices.iter().skip(behind) {
-            if self.place(*number)? {
+        for position in behind..choices.len() {
+            if self.place(choices[position])? {
                 return Ok(true);
             }
         }
@@ -96,9 +107,8 @@ impl Search<'_> {
 
     /// Lets new books count what is in the order.
     fn reopen(&mut self) -> Result<(), Memory> {
-        if let Some(books) = books_of(self.alloc, self.heap, self.logs, &self.order)? {
-            self.books = books;
-        }
+        self.books = Books::opening(self.alloc, self.heap)?;
+        accept(&mut self.books, self.logs, &self.order)?;
         Ok(())
     }
 
@@ -108,9 +118,7 @@ impl Search<'_> {
             return Ok(None);
         };
         self.reopen()?;
-        let choices = self.choices();
-        let tried = choices.iter().position(|other| *other == number);
-        Ok(tried.map(|position| position.saturating_add(1)))
+        Ok(Some(tried_at(&self.choices(), number).saturating_add(1)))
     }
 
     /// Whether the order has all entries, and nothing is in use behind them.
@@ -136,27 +144,33 @@ impl Search<'_> {
         }
         Ok(End::RanOut)
     }
+
+    /// What the search comes to, and whether the order then stands by books of its own.
+    fn end(&mut self, steps: u32) -> Result<(End, bool), Memory> {
+        let end = self.run(steps)?;
+        let stands = stands(self.alloc, self.heap, self.logs, &self.order)?;
+        Ok((end, stands))
+    }
 }
 
-/// Searches for an order of the logs of two seats and their collector, in so many steps at most, and hands it over where one is found.
-pub(super) fn order_of(
+/// Searches for an order of the logs of two seats and their collector, in so many steps at most: what that comes to, and whether what has then been put into an order stands as one of all.
+pub(super) fn searched(
     alloc: Global,
     heap: Heap,
     logs: &[Vec<Entry>],
     begun: &[u8],
     steps: u32,
-) -> Result<(End, Order), Memory>
+) -> Result<(End, bool), Memory>
     requires { IsHeap heap }
 {
+    let books = Books::opening(alloc, heap)?;
     let mut search = Search {
         alloc,
         heap,
         logs,
         begun,
         order: Vec::new(alloc),
-        books: Books::opening(alloc, heap)?,
+        books,
     };
-    let end = search.run(steps)?;
-    let Search { order, .. } = search;
-    Ok((end, order))
+    search.end(steps)
 }

@@ -23,25 +23,31 @@ fn gets_replaced(get: (u8, u32, u32), set: (u8, u32, u32)) -> bool {
     stamp == was
 }
 
+/// Whether the entry is a set that replaces what the command has found, by this stamp.
+fn replaces_found(entry: &Entry, command: Command, stamp: u32) -> bool {
+    let Command::Get { r, i, .. } = command else {
+        return false;
+    };
+    match *entry {
+        Entry::Said {
+            command: Command::Set { r: own, i: at, .. },
+            reply: Reply::Was(was),
+            ..
+        } => gets_replaced((r, i, stamp), (own, at, was)),
+        _ => false,
+    }
+}
+
 /// Whether the reply can't be given any more behind the entry. It is `due` where it is the next reply of its seat: else the last one before it is yet to come, too.
 fn is_too_late(command: Command, reply: Reply, due: bool, entry: &Entry) -> bool {
-    match (command, reply, *entry) {
-        (
-            Command::Get { r, i, .. },
-            Reply::Got { stamp, .. },
-            Entry::Said {
-                command: Command::Set { r: own, i: at, .. },
-                reply: Reply::Was(was),
-                ..
-            },
-        ) => gets_replaced((r, i, stamp), (own, at, was)),
-        (_, Reply::Phase(phase), _) => begun_by(entry).is_some_and(|begun| phase < begun),
-        (_, Reply::Cycle(cycle), _) if !due => {
+    match reply {
+        Reply::Got { stamp, .. } => replaces_found(entry, command, stamp),
+        Reply::Phase(phase) => begun_by(entry).is_some_and(|begun| phase < begun),
+        Reply::Cycle(cycle) if !due => {
             let begin = cycle.saturating_mul(CYCLE_PHASES).saturating_add(BARRIERS);
             begun_by(entry) == Some(begin)
         }
-        (_, Reply::Waits { seat, phase, .. }, _) if !due => *entry
-            == Entry::Answers { seat, phase },
+        Reply::Waits { seat, phase, .. } if !due => *entry == Entry::Answers { seat, phase },
         _ => false,
     }
 }

@@ -1,11 +1,13 @@
 //! Worked logs: which of them have an order.
 
-use super::order::stands;
-use super::search::{End, order_of};
+ghost use Rattle.heap_model.specs.Heap.{IsHeap};
+
+use super::search::{End, searched};
 use crate::tests::comparing::same;
 use heap_model::{Entry, Heap, Memory};
 use reply_text::read_history;
 use std::alloc::Global;
+use std::process::Abort;
 use std::test::Fail;
 
 /// Logs of two seats on a heap with five fragments more than the board's, before they leave; how many fragments the collector's one cycle frees behind that, if there is one; the
@@ -26,7 +28,7 @@ const BETWEEN: &str =
 const MAKES_LATE: &str = "0 takes 5\n0 new 1 14 = 0.0\n1 takes 5\n1 gives back 5\n";
 
 /// The logs hold fourteen entries with leaves and cycle, so that fifteen steps find an order where none is taken back.
-const ROWS: [Row; 9] = [
+const ROWS: &[Row] = &[
     (BETWEEN, Some(11), 15, End::Found),
     (BETWEEN, Some(11), 4, End::RanOut),
     (MAKES_LATE, Some(16), 15, End::RanOut),
@@ -87,16 +89,23 @@ fn logs_of(alloc: Global, seats: &str, freed: Option<u32>) -> Result<Vec<Vec<Ent
     Ok(logs)
 }
 
+/// The search for an order of the row's logs comes to what it has to, and only an order that is found stands.
+fn is_searched(rt: &impl Abort, alloc: Global, heap: Heap, row: &Row) -> Result<(), Fail>
+    requires { IsHeap heap }
+{
+    let (seats, freed, steps, wanted) = *row;
+    let logs = logs_of(alloc, seats, freed)?;
+    let (end, stands) = searched(alloc, heap, &logs, &[], steps)?;
+    same(rt, &end, &wanted, &seats);
+    same(rt, &stands, &(end == End::Found), &seats);
+    Ok(())
+}
+
 #[test]
 fn finds_orders_of_worked_logs(rt: HostRuntime) -> Result<(), Fail> {
-    let alloc = rt.alloc();
     let heap = Heap::make(1, 0, 2, 32).ok_or("the limits")?;
-    for (seats, freed, steps, wanted) in ROWS {
-        let logs = logs_of(alloc, seats, freed)?;
-        let (end, order) = order_of(alloc, heap, &logs, &[], steps)?;
-        same(&rt, &end, &wanted, &seats);
-        let found = end == End::Found;
-        same(&rt, &stands(alloc, heap, &logs, &order)?, &found, &seats);
+    for row in ROWS {
+        is_searched(&rt, rt.alloc(), heap, row)?;
     }
     Ok(())
 }

@@ -16,32 +16,6 @@ fn told_of(alloc: Global, text: &str) -> Result<Vec<ToldCall>, Fail> {
     Ok(tell_calls(alloc, history.heap, entries)?)
 }
 
-/// A put of this number.
-fn put(seat: u8, number: u32, reply: PutReply) -> ToldCall {
-    let value = Value::Number(number);
-    ToldCall {
-        seat,
-        told: Told::Put { value, reply },
-    }
-}
-
-/// A take that got this number.
-fn took(seat: u8, number: u32) -> ToldCall {
-    let value = Value::Number(number);
-    ToldCall {
-        seat,
-        told: Told::Took { value },
-    }
-}
-
-/// Another take.
-fn take(seat: u8, reply: TakeReply) -> ToldCall {
-    ToldCall {
-        seat,
-        told: Told::Take { reply },
-    }
-}
-
 // One seat makes the queue, takes, puts 5 and 6, and takes three times.
 const ALONE: &str = "history 2 run\nheap 4 0 1 2\n\
     0 new 15 2 = 0.0\n0 set 0 0 15 = was -\n0 set 0 1 15 = was -\n\
@@ -57,20 +31,58 @@ const ALONE: &str = "history 2 run\nheap 4 0 1 2\n\
     0 get 14 0 0 = object 0.2 at 0:10\n0 get 13 0 1 = object 0.2 at 0:8\n0 get 12 14 1 = nil at -\n0 poll = 0\n\
     0 leave = ok\nend used 1\n";
 
-#[test]
-fn one_seat(rt: HostRuntime) -> Result<(), Fail> {
-    let wanted = [
-        take(0, TakeReply::Empty),
-        put(0, 5, PutReply::Ok),
-        put(0, 6, PutReply::Ok),
-        took(0, 5),
-        took(0, 6),
-        take(0, TakeReply::Empty),
-    ];
-    let found = told_of(rt.alloc(), ALONE)?;
-    same(&rt, &found.as_slice(), &wanted.as_slice(), &"one seat");
-    Ok(())
-}
+/// A number that is put and taken.
+const FIVE: Value = Value::Number(5);
+
+/// Another one.
+const SIX: Value = Value::Number(6);
+
+/// What puts and takes of them come to.
+const PUT_FIVE: Told = Told::Put {
+    value: FIVE,
+    reply: PutReply::Ok,
+};
+
+const PUT_SIX: Told = Told::Put {
+    value: SIX,
+    reply: PutReply::Ok,
+};
+
+const TOOK_FIVE: Told = Told::Took { value: FIVE };
+
+const TOOK_SIX: Told = Told::Took { value: SIX };
+
+const EMPTY: Told = Told::Take {
+    reply: TakeReply::Empty,
+};
+
+/// What the one seat's puts and takes come to.
+const TOLD_ALONE: [ToldCall; 6] = [
+    ToldCall {
+        seat: 0,
+        told: EMPTY,
+    },
+    ToldCall {
+        seat: 0,
+        told: PUT_FIVE,
+    },
+    ToldCall {
+        seat: 0,
+        told: PUT_SIX,
+    },
+    ToldCall {
+        seat: 0,
+        told: TOOK_FIVE,
+    },
+    ToldCall {
+        seat: 0,
+        told: TOOK_SIX,
+    },
+    ToldCall {
+        seat: 0,
+        told: EMPTY,
+    },
+];
 
 // The second seat comes between where the first has linked its 5 and where it would move the last node on.
 const BETWEEN: &str = "history 2 run\nheap 4 0 2 2\n\
@@ -88,28 +100,54 @@ const BETWEEN: &str = "history 2 run\nheap 4 0 2 2\n\
 /// The stamp of the first seat's fourth set.
 const LINKED: u32 = 0x400_0004;
 
-#[test]
-fn two_seats(rt: HostRuntime) -> Result<(), Fail> {
-    let full = PutReply::Full { need: 1, found: 0 };
-    let wanted = [
-        put(0, 5, PutReply::Ok),
-        put(1, 7, PutReply::Again { stamp: LINKED }),
-        put(1, 8, full),
-        take(1, TakeReply::Again { stamp: LINKED }),
-        took(1, 5),
-    ];
-    let found = told_of(rt.alloc(), BETWEEN)?;
-    same(&rt, &found.as_slice(), &wanted.as_slice(), &"two seats");
-    Ok(())
-}
+/// What the two seats' puts and takes come to.
+const TOLD_BETWEEN: [ToldCall; 5] = [
+    ToldCall {
+        seat: 0,
+        told: PUT_FIVE,
+    },
+    ToldCall {
+        seat: 1,
+        told: Told::Put {
+            value: Value::Number(7),
+            reply: PutReply::Again { stamp: LINKED },
+        },
+    },
+    ToldCall {
+        seat: 1,
+        told: Told::Put {
+            value: Value::Number(8),
+            reply: PutReply::Full { need: 1, found: 0 },
+        },
+    },
+    ToldCall {
+        seat: 1,
+        told: Told::Take {
+            reply: TakeReply::Again { stamp: LINKED },
+        },
+    },
+    ToldCall {
+        seat: 1,
+        told: TOOK_FIVE,
+    },
+];
 
 // The first seat gets no first node.
 const UNMADE: &str =
     "history 2 run\nheap 1 0 1 47\n0 new 15 2 = full need 1 found 0\n0 leave = ok\nend used 16\n";
 
+/// Histories, each with what is told of it.
+const HISTORIES: &[(&str, &str, &[ToldCall])] = &[
+    ("one seat", ALONE, &TOLD_ALONE),
+    ("two seats", BETWEEN, &TOLD_BETWEEN),
+    ("no queue", UNMADE, &[]),
+];
+
 #[test]
-fn no_queue(rt: HostRuntime) -> Result<(), Fail> {
-    let found = told_of(rt.alloc(), UNMADE)?;
-    same(&rt, &found.len(), &0, &"no queue");
+fn tells_of_puts_and_takes(rt: HostRuntime) -> Result<(), Fail> {
+    for (what, text, wanted) in HISTORIES {
+        let found = told_of(rt.alloc(), text)?;
+        same(&rt, &found.as_slice(), wanted, what);
+    }
     Ok(())
 }
