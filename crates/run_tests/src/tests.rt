@@ -4,7 +4,6 @@ ghost use Rattle.std.specs.Prelude.{◌≡◌, ◌<◌, [], IfOk};
 ghost use Rattle.script_text.specs.declared.script.Form.TheVariants.{Play};
 ghost use Rattle.script_text.specs.Writing.{IsOfForm};
 ghost use Rattle.heap_model.specs.Heap.{IsHeap};
-ghost use Rattle.heap_runs.specs.PlayHeap.{MayCall};
 ghost use Rattle.std.specs.List.{AllByRecursion};
 ghost use Rattle.reply_text.specs.Written.{HasText};
 ghost use Rattle.script_text.specs.Preamble.{usual_board};

@@ -1,6 +1,6 @@
 //! The seats and the collector of one table, which one thread lets work.
 
-ghost use Rattle.std.specs.Prelude.{◌≡◌, IfOk, IsTrue};
+ghost use Rattle.std.specs.Prelude.{IfOk, IsTrue};
 ghost use Rattle.core_machine.specs.seat.Commands.{IsServed};
 ghost use Rattle.heap_model.specs.Heap.{IsHeap};
 ghost use Rattle.heap_model.specs.calls.SeatCalls.{IsReady};
