@@ -5,6 +5,7 @@ use crate::tests::comparing::{holds, same};
 use heap_model::Command::{self, Array, Cas, Collect, Get, Leave, Len, New, Num, Poll, Set};
 use heap_model::Reply::{self, Cycle, Done, Got, Made, NoObject, SpineFull, Was, Yes};
 use heap_model::{ApplyFault, Entry, Graph, Heap, Id, Value};
+use std::alloc::Global;
 use std::process::Abort;
 use std::test::Fail;
 
@@ -166,19 +167,40 @@ const ENTRIES: &[&str] = &[
     "c cycle = cycle 0 => legal",
 ];
 
+/// The graph of a heap that opens.
+fn graph_of(alloc: Global, groups: u16, spine: u16, seats: u8) -> Result<Graph, Fail> {
+    let heap = Heap::make(groups, spine, seats, 32).ok_or("the limits")?;
+    Ok(Graph::new(alloc, heap)?)
+}
+
+/// The graph grows by the entry that the line is.
+fn grow(alloc: Global, graph: &mut Graph, line: &str) -> Result<(), Fail> {
+    graph.apply(&entry_of(alloc, line)?)?;
+    Ok(())
+}
+
+/// The first seat doesn't say so.
+fn refuses(
+    rt: &(impl Abort + AllocGlobal),
+    graph: &mut Graph,
+    command: Command,
+    reply: Reply,
+) -> Result<(), Fail> {
+    let given = graph.apply(&Entry::Said {
+        seat: 0,
+        command,
+        reply,
+    });
+    let at = format!(in rt.alloc(); "{command:?} = {reply:?}")?;
+    same(rt, &given, &Err(ApplyFault::NotLegal), &at);
+    Ok(())
+}
+
 #[test]
 fn accepts_no_other_commands_and_replies(rt: HostRuntime) -> Result<(), Fail> {
-    let alloc = rt.alloc();
-    let heap = Heap::make(1, 0, 2, 32).ok_or("the limits")?;
-    let mut graph = Graph::new(alloc, heap)?;
+    let mut graph = graph_of(rt.alloc(), 1, 0, 2)?;
     for (command, reply) in UNWRITTEN {
-        let given = graph.apply(&Entry::Said {
-            seat: 0,
-            command,
-            reply,
-        });
-        let at = format!(in alloc; "{command:?} = {reply:?}")?;
-        same(&rt, &given, &Err(ApplyFault::NotLegal), &at);
+        refuses(&rt, &mut graph, command, reply)?;
     }
     Ok(())
 }
@@ -192,14 +214,19 @@ fn answer_of(verdict: &str) -> Result<(), ApplyFault> {
     }
 }
 
+/// The graph accepts the entry exactly if it may stand.
+fn judges(rt: &(impl Abort + AllocGlobal), graph: &mut Graph, line: &str) -> Result<(), Fail> {
+    let (entry, verdict) = line.split_once(" => ").ok_or("an entry has a verdict")?;
+    let given = graph.apply(&entry_of(rt.alloc(), entry)?);
+    same(rt, &given, &answer_of(verdict), &line);
+    Ok(())
+}
+
 /// The graph of a heap of two seats, which accepts of these entries just those that may stand.
 fn grown(rt: &(impl Abort + AllocGlobal), entries: &[&str]) -> Result<Graph, Fail> {
-    let heap = Heap::make(1, 0, 2, 32).ok_or("the limits")?;
-    let mut graph = Graph::new(rt.alloc(), heap)?;
+    let mut graph = graph_of(rt.alloc(), 1, 0, 2)?;
     for line in entries {
-        let (entry, verdict) = line.split_once(" => ").ok_or("an entry has a verdict")?;
-        let given = graph.apply(&entry_of(rt.alloc(), entry)?);
-        same(rt, &given, &answer_of(verdict), line);
+        judges(rt, &mut graph, line)?;
     }
     Ok(graph)
 }
@@ -212,16 +239,18 @@ const HELD: [(u8, u8, Value); 4] = [
     (1, 2, Value::Object(FIRST)),
 ];
 
+/// The register holds the value.
+fn holds_value(rt: &impl Abort, graph: &Graph, seat: u8, register: u8, value: Value) {
+    let is_there = (seat as usize) < graph.seats() && register <= 15;
+    holds(rt, is_there, &seat);
+    same(rt, &graph.value(seat, register), &value, &seat);
+}
+
 #[test]
 fn accepts_what_a_growing_heap_says(rt: HostRuntime) -> Result<(), Fail> {
     let graph = grown(&rt, ENTRIES)?;
     for (seat, register, value) in HELD {
-        holds(
-            &rt,
-            (seat as usize) < graph.seats() && register <= 15,
-            &seat,
-        );
-        same(&rt, &graph.value(seat, register), &value, &seat);
+        holds_value(&rt, &graph, seat, register, value);
     }
     Ok(())
 }
