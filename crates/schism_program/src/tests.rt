@@ -1,5 +1,19 @@
 //! Tests of what the program makes of words and bytes.
 
+/// A text that is refused at this line, for this cause.
+macro_rules! refused {
+    ($line:expr, $cause:expr) => {
+        Status::Refused { line: $line, cause: $cause }
+    };
+}
+
+/// A history that isn't legal at this line.
+macro_rules! illegal {
+    ($line:expr) => {
+        Status::NotLegal { line: $line }
+    };
+}
+
 mod arrays;
 mod boards;
 mod collects;
@@ -14,6 +28,7 @@ mod judged;
 mod limits;
 mod migrations;
 mod queues;
+mod rows;
 mod runs;
 mod scripts;
 mod several_seats;
@@ -29,7 +44,6 @@ use comparing::holds;
 use heap_model::{Gate, OpenGate};
 use heap_table::Closed;
 use io_edge::{MemSink, MemSource, NeverSink, NeverSource, Sink, Source};
-use script_text::Cause;
 use slack_pace::{Debt, Paces, Steady};
 use std::alloc::{AllocError, Global};
 use std::process::Abort;
@@ -40,14 +54,6 @@ const FIRST: &str = "schism 1\nheap 1 0 1\n0 new 1 2\n0 num 2 9\n0 set 1 0 2\n0 
 
 const FIRST_PLAYED: &str =
     "history 1 play\nheap 1 0 1\n0 takes 5\n0 new 1 2 = 0.0\n0 num 2 9 = ok\n0 set 1 0 2 = was -\n0 get 3 1 0 = number 9 at 0:1\nspace used 16 of 16 spine 0 of 0\n0 gives back 4\n0 leave = ok\nc phase 1\nc phase 2\nc phase 3\nc phase 4\nc phase 5\nc frees 12\nc phase 6\nc ends 0 kept 0\nend used 0\n";
-
-fn refused(line: u32, cause: Cause) -> Status {
-    Status::Refused { line, cause }
-}
-
-fn illegal(line: u32) -> Status {
-    Status::NotLegal { line }
-}
 
 // What comes of the words, and the table that is left. The contract of the call is large, so that each place which makes it is dear to prove: this is the only one.
 fn ended_with<S: Source, K: Sink, G: Gate>(
@@ -111,7 +117,7 @@ fn told_at<G: Gate>(
 ) -> Result<(Status, Vec<u8>), AllocError> {
     let words: Vec<&str> = line.split(' ').collect(alloc)?;
     let source = &mut NeverSource::new(Vec::from_slice(alloc, text)?);
-    let sink = &mut NeverSink::new(Vec::with_capacity(alloc, 262_144)?);
+    let sink = &mut NeverSink::new(Vec::with_capacity(alloc, 1_048_576)?);
     let status = ended_with(rt, alloc, &words, source, sink, gate, paces, &mut None);
     Ok((status, Vec::from_slice(alloc, sink.bytes().unwrap_or(&[]))?))
 }

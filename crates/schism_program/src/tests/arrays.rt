@@ -1,7 +1,6 @@
 //! Plays with arrays. An array of N cells has a first fragment and one for each four cells, and a spine word for each of these.
 
-use super::several_seats::{plays, text_of};
-use std::alloc::{AllocError, Global};
+use super::several_seats::plays;
 use std::test::Fail;
 
 /// A script, the history of its play, and how many entries that has. Lines stand with "; " between them.
@@ -69,15 +68,6 @@ const KEPT: (&str, &str, &str) = (
     "legal 34",
 );
 
-/// The text so many times.
-fn repeated(alloc: Global, text: &str, times: u8) -> Result<String, AllocError> {
-    let mut all = String::new(alloc);
-    for _ in 0..times {
-        all.push_str(text)?;
-    }
-    Ok(all)
-}
-
 #[test]
 fn plays_arrays(rt: HostRuntime) -> Result<(), Fail> {
     plays(&rt, rt.alloc(), &PLAYS)
@@ -88,8 +78,8 @@ fn plays_arrays(rt: HostRuntime) -> Result<(), Fail> {
 #[test]
 fn plays_the_largest_array(rt: HostRuntime) -> Result<(), Fail> {
     let alloc = rt.alloc();
-    let takes = repeated(alloc, "0 takes 16; ", 64)?;
-    let frees = repeated(alloc, "c frees 16; ", 63)?;
+    let takes = "0 takes 16; ".repeat(alloc, 64)?;
+    let frees = "c frees 16; ".repeat(alloc, 63)?;
     let history = format!(in alloc;
         "history 1 play; heap 66 1024 1; 0 takes 5; {takes}0 array 1 4096 = 0.0; 0 num 2 1 = ok; 0 set 1 4095 2 = was -; 0 get 3 1 4095 = number 1 at 0:1; 0 get 3 1 4096 = no field; 0 len 1 = 4096; space used 1040 of 1056 spine 1024 of 1024; 0 gives back 4; 0 leave = ok; c phase 1; c phase 2; c phase 3; c phase 4; c phase 5; c frees 16; c returns 1024; {frees}c frees 12; c phase 6; c ends 0 kept 0; end used 0"
     )?;

@@ -1,14 +1,18 @@
 //! Crews: what is told of their jobs, what is refused, and that their history is legal.
 
-use super::comparing::{holds, tells};
-use super::several_seats::text_of;
-use super::{told, written};
+use super::comparing::holds;
+use super::rows::{Unwritten, Written, writes_each, writes_nothing};
+use super::written;
 use crate::status::Status;
 use script_text::Cause;
+use std::alloc::{AllocError, Global};
+use std::process::Abort;
+use std::sync::Wait;
 use std::test::Fail;
+use std::thread::Threads;
 
 /// Words, a crew's text, and what is written of it. Lines stand with "; " between them. On one seat each job is told whole.
-const TOLD: [(&str, &str, &str); 4] = [
+const TOLD: [Written; 4] = [
     // a job finds no object in register 1, since what another made is gone
     (
         "crew",
@@ -36,104 +40,57 @@ const TOLD: [(&str, &str, &str); 4] = [
 
 #[test]
 fn tells_each_job(rt: HostRuntime) -> Result<(), Fail> {
-    let alloc = rt.alloc();
-    for (line, text, wanted) in TOLD {
-        let (text, wanted) = (text_of(alloc, text)?, text_of(alloc, wanted)?);
-        let told = told(&rt, alloc, line, text.as_bytes())?;
-        tells(&rt, &told, Status::Done, wanted.as_bytes(), &text);
-    }
-    Ok(())
+    writes_each(&rt, rt.alloc(), &TOLD)
 }
 
 /// Words, a text, and the status that it ends with.
-const ENDED: [(&str, &str, Status); 14] = [
+const ENDED: [Unwritten; 14] = [
     (
         "crew",
         "crew 2; heap 1 0 1 32",
-        Status::Refused {
-            line: 1,
-            cause: Cause::NoHeader,
-        },
+        refused!(1, Cause::NoHeader),
     ),
     (
         "crew",
         "schism 2; heap 1 0 1 32",
-        Status::Refused {
-            line: 1,
-            cause: Cause::NoHeader,
-        },
+        refused!(1, Cause::NoHeader),
     ),
-    (
-        "crew",
-        "crew 1; heap 1 0 1",
-        Status::Refused {
-            line: 2,
-            cause: Cause::BadHeap,
-        },
-    ),
-    (
-        "crew",
-        "crew 1; heap 1 0 1 48",
-        Status::Refused {
-            line: 2,
-            cause: Cause::BadHeap,
-        },
-    ),
+    ("crew", "crew 1; heap 1 0 1", refused!(2, Cause::BadHeap)),
+    ("crew", "crew 1; heap 1 0 1 48", refused!(2, Cause::BadHeap)),
     (
         "crew",
         "crew 1; heap 1 0 1 32; 4096 poll",
-        Status::Refused {
-            line: 3,
-            cause: Cause::NoSeat,
-        },
+        refused!(3, Cause::NoSeat),
     ),
     (
         "crew",
         "crew 1; heap 1 0 1 32; c cycle",
-        Status::Refused {
-            line: 3,
-            cause: Cause::NoSeat,
-        },
+        refused!(3, Cause::NoSeat),
     ),
     (
         "crew",
         "crew 1; heap 1 0 1 32; 0 poll; 0 collect",
-        Status::Refused {
-            line: 4,
-            cause: Cause::NoCommand,
-        },
+        refused!(4, Cause::NoCommand),
     ),
     (
         "crew",
         "crew 1; heap 1 0 1 32; 0 leave",
-        Status::Refused {
-            line: 3,
-            cause: Cause::NoCommand,
-        },
+        refused!(3, Cause::NoCommand),
     ),
     (
         "crew",
         "crew 1; heap 1 0 1 32; 0 new 0 1",
-        Status::Refused {
-            line: 3,
-            cause: Cause::OutOfRange,
-        },
+        refused!(3, Cause::OutOfRange),
     ),
     (
         "crew",
         "crew 1; heap 1 0 1 32; 0 cas 0 1 5",
-        Status::Refused {
-            line: 3,
-            cause: Cause::BadNumber,
-        },
+        refused!(3, Cause::BadNumber),
     ),
     (
         "crew",
         "crew 1; heap 1 0 1 32; 0 poll 1",
-        Status::Refused {
-            line: 3,
-            cause: Cause::TooManyWords,
-        },
+        refused!(3, Cause::TooManyWords),
     ),
     (
         "crew --history --history",
@@ -146,32 +103,31 @@ const ENDED: [(&str, &str, Status); 14] = [
 
 #[test]
 fn refuses_other_texts_and_words(rt: HostRuntime) -> Result<(), Fail> {
-    let alloc = rt.alloc();
-    for (line, text, end) in ENDED {
-        let text = text_of(alloc, text)?;
-        let told = told(&rt, alloc, line, text.as_bytes())?;
-        tells(&rt, &told, end, b"", &text);
-    }
+    writes_nothing(&rt, rt.alloc(), &ENDED)
+}
+
+/// The crew's history is legal.
+fn is_legal(
+    rt: &(impl Abort + Threads + Wait + Sync),
+    alloc: Global,
+    text: &str,
+) -> Result<(), AllocError> {
+    let history = written(rt, alloc, "crew --history", text.as_bytes())?;
+    let begins = history.starts_with(b"history 2 run\nheap ");
+    holds(rt, begins, &"history");
+    let verdict = written(rt, alloc, "check", &history)?;
+    holds(rt, verdict.starts_with(b"legal "), &"check");
     Ok(())
 }
 
 #[test]
 fn tells_a_legal_history(rt: HostRuntime) -> Result<(), Fail> {
     let alloc = rt.alloc();
-    let mut text = Vec::from_slice(alloc, b"crew 1\nheap 4 0 3 32\n")?;
+    let mut text = String::from_str(alloc, "crew 1\nheap 4 0 3 32\n")?;
     for job in 0..200u32 {
-        let lines = format!(in alloc; "{job} num 1 7\n{job} set 0 0 1\n{job} get 2 0 0\n")?;
-        text.extend_from_slice(lines.as_bytes())?;
+        write!(text, "{job} num 1 7\n{job} set 0 0 1\n{job} get 2 0 0\n")?;
     }
-    for text in [text.as_slice(), b"crew 1\nheap 1 0 2 5\n"] {
-        let history = written(&rt, alloc, "crew --history", text)?;
-        holds(
-            &rt,
-            history.starts_with(b"history 2 run\nheap "),
-            &"history",
-        );
-        let verdict = written(&rt, alloc, "check", &history)?;
-        holds(&rt, verdict.starts_with(b"legal "), &"check");
-    }
+    is_legal(&rt, alloc, &text)?;
+    is_legal(&rt, alloc, "crew 1\nheap 1 0 2 5\n")?;
     Ok(())
 }

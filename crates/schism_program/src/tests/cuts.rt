@@ -128,9 +128,23 @@ const HISTORY_CUTS: [Cut; 65] = [
 /// So much of the text, and then this.
 fn front_of(alloc: Global, text: &str, front: usize, last: &str) -> Result<Vec<u8>, Fail> {
     let before = text.as_bytes().get(..front).ok_or("a front")?;
-    let mut whole = Vec::from_slice(alloc, before)?;
-    whole.extend_from_slice(last.as_bytes())?;
-    Ok(whole)
+    Ok([before, last.as_bytes()].concat(alloc)?)
+}
+
+/// Compares what the word makes of the front of this length with what is said and written of it.
+fn ends_at(
+    rt: &(impl Abort + Threads + Wait + Sync),
+    alloc: Global,
+    word: &str,
+    front: &[u8],
+    said: &str,
+    wanted: &[u8],
+) -> Result<(), Fail> {
+    let (status, written) = ended(rt, alloc, &[word], front, &[], &[])?;
+    let at = format!(in alloc; "{word} of the first {}", front.len())?;
+    holds(rt, status_text(&status).as_str() == said, &at);
+    holds(rt, written.as_slice() == wanted, &at);
+    Ok(())
 }
 
 /// Compares what the word makes of the text with the table, at every length up to the whole. What is written begins as the history does.
@@ -147,10 +161,7 @@ fn ends_at_each_cut(
         let wanted = front_of(alloc, history, front, last)?;
         for length in next..below {
             let kept = text.as_bytes().get(..length).ok_or("a front")?;
-            let (status, written) = ended(rt, alloc, &[word], kept, &[], &[])?;
-            let at = format!(in alloc; "{word} of the first {length}")?;
-            holds(rt, status_text(&status).as_str() == said, &at);
-            holds(rt, written.as_slice() == wanted.as_slice(), &at);
+            ends_at(rt, alloc, word, kept, said, &wanted)?;
         }
         next = below;
     }

@@ -1,7 +1,8 @@
 //! The forms of the words after the program's name: plays at a pace, briefs, and scripts that are made.
 
 use super::comparing::tells;
-use super::{FIRST, ended, told, written};
+use super::rows::comes;
+use super::{FIRST, ended, written};
 use crate::status::Status;
 use std::alloc::{AllocError, Global};
 use std::process::Abort;
@@ -29,31 +30,23 @@ const STATUSES: [(&[&str], Status); 16] = [
     (&["migrate", "history"], Status::ReadFault),
 ];
 
-/// What the words in the line write of the text.
-fn writes(
+/// Compares what comes of the words where the first call of each side would fail.
+fn ends(
     rt: &(impl Abort + Threads + Wait + Sync),
     alloc: Global,
-    line: &str,
-    text: &[u8],
-    wanted: &[u8],
+    words: &[&str],
+    status: Status,
 ) -> Result<(), AllocError> {
-    let told = told(rt, alloc, line, text)?;
-    tells(rt, &told, Status::Done, wanted, &line);
+    let told = ended(rt, alloc, words, FIRST.as_bytes(), &[0], &[0])?;
+    let word = words.first().unwrap_or(&"no words");
+    tells(rt, &told, status, b"", word);
     Ok(())
 }
 
 #[test]
 fn says_usage_of_other_words(rt: HostRuntime) -> Result<(), Fail> {
-    let alloc = rt.alloc();
-    for (words, status) in STATUSES {
-        let told = ended(&rt, alloc, words, FIRST.as_bytes(), &[0], &[0])?;
-        tells(
-            &rt,
-            &told,
-            status,
-            b"",
-            words.first().unwrap_or(&"no words"),
-        );
+    for &(words, status) in &STATUSES {
+        ends(&rt, rt.alloc(), words, status)?;
     }
     Ok(())
 }
@@ -63,11 +56,11 @@ fn says_usage_of_other_words(rt: HostRuntime) -> Result<(), Fail> {
 #[test]
 fn makes_a_script_and_plays_it(rt: HostRuntime) -> Result<(), Fail> {
     let alloc = rt.alloc();
-    let script = b"schism 1\nheap 64 256 1\n0 copy 14 1\n0 set 11 3 2\n0 set 4 6 13\n0 poll\n";
-    writes(&rt, alloc, "make 1 1 4", b"", script)?;
+    let script = "schism 1\nheap 64 256 1\n0 copy 14 1\n0 set 11 3 2\n0 set 4 6 13\n0 poll\n";
+    comes(&rt, alloc, "make 1 1 4", "", Status::Done, script)?;
     let wanted =
         "history 1 play\nheap 64 256 1\n0 copy 14 1 = ok\n0 set 11 3 2 = no object\n0 set 4 6 13 = no object\n0 poll = 0\nspace used 11 of 1024 spine 0 of 256\n0 leave = ok\nc phase 1\nc phase 2\nc phase 3\nc phase 4\nc phase 5\nc frees 11\nc phase 6\nc ends 0 kept 0\nend used 0\n";
-    writes(&rt, alloc, "play", script, wanted.as_bytes())?;
+    comes(&rt, alloc, "play", script, Status::Done, wanted)?;
     Ok(())
 }
 
@@ -78,8 +71,9 @@ fn plays_a_made_script_at_a_steady_pace(rt: HostRuntime) -> Result<(), Fail> {
     let script = written(&rt, alloc, "make 7 4 2000", b"")?;
     let wanted =
         "brief 1\nheap 64 256 4\ncommands 2000 refused 232\nmade 409 cycles 14 freed 1737 swung 195\nspace used 252 of 1024 spine 108 of 256\nend used 0\n";
+    let script = str::from_utf8(&script)?;
     for line in ["play --pace steady --brief", "play --brief --pace steady"] {
-        writes(&rt, alloc, line, &script, wanted.as_bytes())?;
+        comes(&rt, alloc, line, script, Status::Done, wanted)?;
     }
     Ok(())
 }
@@ -92,12 +86,18 @@ fn plays_a_made_script_at_a_steady_pace(rt: HostRuntime) -> Result<(), Fail> {
 // begin in no slack. What is borne then is black, so nothing is freed before the second cycle.
 #[test]
 fn plays_at_a_steady_pace(rt: HostRuntime) -> Result<(), Fail> {
-    let alloc = rt.alloc();
     let script =
-        b"schism 1\nheap 3 0 2\n1 new 1 47\n0 poll\n1 poll\n0 poll\n1 poll\n0 poll\n1 poll\n0 num 2 9\n0 new 1 47\n0 nil 2\n";
+        "schism 1\nheap 3 0 2\n1 new 1 47\n0 poll\n1 poll\n0 poll\n1 poll\n0 poll\n1 poll\n0 num 2 9\n0 new 1 47\n0 nil 2\n";
     let wanted =
         "history 1 play\nheap 3 0 2\n1 takes 16\n1 new 1 47 = 1.0\nc phase 1\n0 answers 1\n0 poll = 1\n1 answers 1\n1 poll = 1\nc phase 2\n0 answers 2\n0 poll = 2\n1 answers 2\n1 poll = 2\nc phase 3\n0 answers 3\n0 poll = 3\n1 answers 3\n1 poll = 3\n0 num 2 9 = ok\n0 takes 5\n0 takes 16\n0 new 1 47 = 0.0\nc phase 4\n0 nil 2 = ok\nspace used 48 of 48 spine 0 of 0\n0 gives back 5\n0 leave = ok\n1 leave = ok\nc phase 5\nc phase 6\nc ends 0 kept 43\nc phase 8\nc phase 9\nc phase 10\nc phase 11\nc phase 12\nc frees 16\nc frees 16\nc frees 11\nc phase 13\nc ends 1 kept 0\nend used 0\n";
-    writes(&rt, alloc, "play --pace steady", script, wanted.as_bytes())?;
+    comes(
+        &rt,
+        rt.alloc(),
+        "play --pace steady",
+        script,
+        Status::Done,
+        wanted,
+    )?;
     Ok(())
 }
 
@@ -105,10 +105,16 @@ fn plays_at_a_steady_pace(rt: HostRuntime) -> Result<(), Fail> {
 // the steady pace phase 1 would begin behind the num.
 #[test]
 fn plays_at_the_pace_of_a_debt(rt: HostRuntime) -> Result<(), Fail> {
-    let alloc = rt.alloc();
-    let script = b"schism 1\nheap 1 0 1\n0 num 1 1\n0 new 2 1\n";
+    let script = "schism 1\nheap 1 0 1\n0 num 1 1\n0 new 2 1\n";
     let wanted =
         "history 1 play\nheap 1 0 1\n0 num 1 1 = ok\n0 takes 5\n0 new 2 1 = 0.0\nc phase 1\nspace used 16 of 16 spine 0 of 0\n0 gives back 4\n0 leave = ok\nc phase 2\nc phase 3\nc phase 4\nc phase 5\nc frees 12\nc phase 6\nc ends 0 kept 0\nc phase 8\nc phase 9\nc phase 10\nc phase 11\nc phase 12\nc phase 13\nc ends 1 kept 0\nend used 0\n";
-    writes(&rt, alloc, "play --pace debt", script, wanted.as_bytes())?;
+    comes(
+        &rt,
+        rt.alloc(),
+        "play --pace debt",
+        script,
+        Status::Done,
+        wanted,
+    )?;
     Ok(())
 }

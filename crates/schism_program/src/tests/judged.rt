@@ -72,86 +72,105 @@ const LAST: &str = "c phase 6\n0 answers 6\n";
 const HELD_BACK: &str =
     "history 1 play\nheap 1 0 1\n0 takes 5\n0 new 1 2 = 0.0\n0 new 2 47 = full need 16 found 4\n0 nil 1 = ok\nc phase 1\n0 answers 1\nc phase 2\n0 answers 2\nc phase 3\n0 answers 3\nc phase 4\n0 answers 4\nc phase 5\n0 answers 5\nc frees 1\nc phase 6\n0 answers 6\n";
 
-// A piece of a case that stands for some lines: how histories begin, and stretches of a cycle.
+// The pieces of a case that stand for some lines, and these: how histories begin, and stretches of a cycle.
+const STRETCHES: [(&str, &str); 15] = [
+    ("lone", LONE),
+    ("pair", PAIR),
+    ("wide", WIDE),
+    ("narrow", NARROW),
+    ("bare", BARE),
+    ("filled", FILLED),
+    ("late", LATE),
+    ("run", RUN),
+    ("gone", GONE),
+    ("ending", ENDING),
+    ("spun", SPUN),
+    ("again", AGAIN),
+    ("to sweep", TO_SWEEP),
+    ("last", LAST),
+    ("held back", HELD_BACK),
+];
+
+// The lines for which a piece of a case stands, if it isn't a line itself.
 fn stretch(piece: &str) -> Option<&'static str> {
-    match piece {
-        "lone" => Some(LONE),
-        "pair" => Some(PAIR),
-        "wide" => Some(WIDE),
-        "narrow" => Some(NARROW),
-        "bare" => Some(BARE),
-        "filled" => Some(FILLED),
-        "late" => Some(LATE),
-        "run" => Some(RUN),
-        "gone" => Some(GONE),
-        "ending" => Some(ENDING),
-        "spun" => Some(SPUN),
-        "again" => Some(AGAIN),
-        "to sweep" => Some(TO_SWEEP),
-        "last" => Some(LAST),
-        "held back" => Some(HELD_BACK),
-        _ => None,
+    for &(name, lines) in &STRETCHES {
+        if name == piece {
+            return Some(lines);
+        }
     }
+    None
+}
+
+// Puts a piece behind the text: a stretch or a line.
+fn add_piece(text: &mut String, piece: &str) -> Result<(), AllocError> {
+    if let Some(lines) = stretch(piece) {
+        return text.push_str(lines);
+    }
+    text.push_str(piece)?;
+    text.push('\n')
 }
 
 // The history of a case: its pieces in order, each a stretch or a line.
 fn history_of(alloc: Global, pieces: &str) -> Result<String, AllocError> {
     let mut text = String::new(alloc);
     for piece in pieces.split("; ") {
-        match stretch(piece) {
-            Some(lines) => text.push_str(lines)?,
-            None => {
-                text.push_str(piece)?;
-                text.push('\n')?;
-            }
-        }
+        add_piece(&mut text, piece)?;
     }
     Ok(text)
 }
 
 // A verdict is what is written of a legal history, or what is said of another, of which nothing is written.
+fn is_judged(found: &(Status, Vec<u8>), verdict: &str) -> bool {
+    let (status, written) = found;
+    if *status == Status::Done {
+        return written.strip_suffix(b"\n") == Some(verdict.as_bytes());
+    }
+    status_text(status).as_str() == verdict && written.is_empty()
+}
+
+// Compares what the check says of a case with its verdict.
+fn judges_case(
+    rt: &(impl Abort + Threads + Wait + Sync),
+    alloc: Global,
+    case: &str,
+) -> Result<(), Fail> {
+    let (pieces, verdict) = case.split_once(" => ").ok_or("a case has a verdict")?;
+    let text = history_of(alloc, pieces)?;
+    let found = ended(rt, alloc, &["check"], text.as_bytes(), &[], &[])?;
+    holds(rt, is_judged(&found, verdict), &case);
+    Ok(())
+}
+
+// Compares what the check says of each case with its verdict.
 fn judges(
-    rt: &(impl Abort + AllocGlobal + Threads + Wait + Sync),
+    rt: &(impl Abort + Threads + Wait + Sync),
+    alloc: Global,
     cases: &[&str],
-) -> Result<(), AllocError> {
-    let alloc = rt.alloc();
+) -> Result<(), Fail> {
     for case in cases {
-        let (pieces, verdict) = case.split_once(" => ").expect(rt, "a case has a verdict");
-        let text = history_of(alloc, pieces)?;
-        let (status, taken) = ended(rt, alloc, &["check"], text.as_bytes(), &[], &[])?;
-        if status == Status::Done {
-            let written = format!(in alloc; "{verdict}\n")?;
-            holds(rt, taken.as_slice() == written.as_bytes(), case);
-        } else {
-            holds(rt, status_text(&status).as_str() == verdict, case);
-            holds(rt, taken.is_empty(), case);
-        }
+        judges_case(rt, alloc, case)?;
     }
     Ok(())
 }
 
 #[test]
 fn judges_objects(rt: HostRuntime) -> Result<(), Fail> {
-    judges(&rt, &objects::CASES)?;
-    Ok(())
+    judges(&rt, rt.alloc(), &objects::CASES)
 }
 
 #[test]
 fn judges_space_and_phases(rt: HostRuntime) -> Result<(), Fail> {
-    judges(&rt, &counts::CASES)?;
-    judges(&rt, &replies::CASES)?;
-    judges(&rt, &cycles::CASES)?;
-    Ok(())
+    judges(&rt, rt.alloc(), &counts::CASES)?;
+    judges(&rt, rt.alloc(), &replies::CASES)?;
+    judges(&rt, rt.alloc(), &cycles::CASES)
 }
 
 #[test]
 fn judges_space_lines_and_end_lines(rt: HostRuntime) -> Result<(), Fail> {
-    judges(&rt, &lines::CASES)?;
-    Ok(())
+    judges(&rt, rt.alloc(), &lines::CASES)
 }
 
 #[test]
 fn judges_runs_for_objects_and_end_lines_alone(rt: HostRuntime) -> Result<(), Fail> {
-    judges(&rt, &runs::CASES)?;
-    Ok(())
+    judges(&rt, rt.alloc(), &runs::CASES)
 }

@@ -2,39 +2,77 @@
 
 use super::comparing::{holds, tells};
 use super::several_seats::plays;
-use super::{ended, refused, status_of, told};
+use super::{ended, status_of, told, written};
 use crate::status::Status;
-use io_edge::{MemSink, MemSource, NeverSink, NeverSource};
+use io_edge::{MemSink, MemSource};
 use script_text::Cause;
-use std::alloc::Global;
+use std::alloc::{AllocError, Global};
+use std::process::Abort;
+use std::sync::Wait;
 use std::test::Fail;
+use std::thread::Threads;
 
-#[test]
-fn reads_no_more_than_the_limit(rt: HostRuntime) -> Result<(), Fail> {
-    for (count, status) in [
-        (1_048_576, refused(3, Cause::NoSeat)),
-        (1_048_577, Status::TooLong),
-    ] {
-        let mut text = Vec::from_slice(rt.alloc(), b"schism 1\nheap 1 0 1\n")?;
-        text.resize(count, b' ')?;
-        let told = ended(&rt, rt.alloc(), &["play"], &text, &[], &[])?;
-        tells(&rt, &told, status, b"", &count);
-    }
+/// Compares what comes of the words and of this text, 4,096 bytes of which are read at a time.
+fn ends(
+    rt: &(impl Abort + Threads + Wait + Sync),
+    alloc: Global,
+    words: &[&str],
+    text: Vec<u8>,
+    status: Status,
+) -> Result<(), AllocError> {
+    let at = text.len();
+    let mut source = MemSource::new(text, 4096, Vec::new(alloc));
+    let mut sink = MemSink::new(Vec::new(alloc), 8, Vec::new(alloc));
+    let end = status_of(rt, alloc, words, &mut source, &mut sink)?;
+    holds(rt, end == status, &at);
+    Ok(())
+}
+
+/// Compares what comes of the words and of so many bytes: two lines and blanks.
+fn ends_by_blanks(
+    rt: &(impl Abort + Threads + Wait + Sync),
+    alloc: Global,
+    count: usize,
+    status: Status,
+) -> Result<(), AllocError> {
+    let mut text = Vec::from_slice(alloc, b"schism 1\nheap 1 0 1\n")?;
+    text.resize(count, b' ')?;
+    let told = ended(rt, alloc, &["play"], &text, &[], &[])?;
+    tells(rt, &told, status, b"", &count);
     Ok(())
 }
 
 #[test]
-fn reads_no_more_of_a_history_than_the_limit(rt: HostRuntime) -> Result<(), Fail> {
+fn reads_no_more_than_the_limit(rt: HostRuntime) -> Result<(), Fail> {
     let alloc = rt.alloc();
-    for (count, status) in [
-        (16_777_216, refused(1, Cause::NoHeader)),
-        (16_777_217, Status::TooLong),
-    ] {
-        let text = vec![in alloc; b' '; count]?;
-        let mut source = MemSource::new(text, 4096, Vec::new(alloc));
-        let mut sink = MemSink::new(Vec::new(alloc), 8, Vec::new(alloc));
-        let end = status_of(&rt, alloc, &["check"], &mut source, &mut sink)?;
-        holds(&rt, end == status, &count);
+    ends_by_blanks(&rt, alloc, 1_048_576, refused!(3, Cause::NoSeat))?;
+    ends_by_blanks(&rt, alloc, 1_048_577, Status::TooLong)?;
+    Ok(())
+}
+
+/// Words, how many blanks they are given, and what comes of these. What is migrated is read four bytes less of.
+const BLANKS: [(&[&str], usize, Status); 6] = [
+    (&["check"], 16_777_216, refused!(1, Cause::NoHeader)),
+    (&["check"], 16_777_217, Status::TooLong),
+    (
+        &["migrate", "script"],
+        1_048_572,
+        refused!(1, Cause::NoHeader),
+    ),
+    (&["migrate", "script"], 1_048_573, Status::TooLong),
+    (
+        &["migrate", "history"],
+        16_777_212,
+        refused!(1, Cause::NoHeader),
+    ),
+    (&["migrate", "history"], 16_777_213, Status::TooLong),
+];
+
+#[test]
+fn reads_no_more_blanks_than_the_limit(rt: HostRuntime) -> Result<(), Fail> {
+    let alloc = rt.alloc();
+    for &(words, count, status) in &BLANKS {
+        ends(&rt, alloc, words, vec![in alloc; b' '; count]?, status)?;
     }
     Ok(())
 }
@@ -42,13 +80,18 @@ fn reads_no_more_of_a_history_than_the_limit(rt: HostRuntime) -> Result<(), Fail
 // Two lines and 65,535 are one too many.
 #[test]
 fn reads_no_more_lines_of_a_script_than_the_limit(rt: HostRuntime) -> Result<(), Fail> {
-    let mut text = Vec::from_slice(rt.alloc(), b"schism 1\nheap 1 0 1\n")?;
-    for _ in 0..65_535 {
-        text.extend_from_slice(b"0 poll\n")?;
-    }
+    let alloc = rt.alloc();
+    let polls = "0 poll\n".repeat(alloc, 65_535)?;
+    let text = ["schism 1\nheap 1 0 1\n", &polls].concat(alloc)?;
     for line in ["play", "run"] {
-        let told = told(&rt, rt.alloc(), line, &text)?;
-        tells(&rt, &told, refused(65_537, Cause::TooManyLines), b"", &line);
+        let told = told(&rt, alloc, line, text.as_bytes())?;
+        tells(
+            &rt,
+            &told,
+            refused!(65_537, Cause::TooManyLines),
+            b"",
+            &line,
+        );
     }
     Ok(())
 }
@@ -62,45 +105,15 @@ fn plays_on_the_largest_heap(rt: HostRuntime) -> Result<(), Fail> {
     plays(&rt, rt.alloc(), &[(script, history, "legal 24")])
 }
 
-#[test]
-fn reads_four_bytes_less_of_what_is_migrated(rt: HostRuntime) -> Result<(), Fail> {
-    let alloc = rt.alloc();
-    for (kind, count, status) in [
-        ("script", 1_048_572, refused(1, Cause::NoHeader)),
-        ("script", 1_048_573, Status::TooLong),
-        ("history", 16_777_212, refused(1, Cause::NoHeader)),
-        ("history", 16_777_213, Status::TooLong),
-    ] {
-        let text = vec![in alloc; b' '; count]?;
-        let mut source = MemSource::new(text, 4096, Vec::new(alloc));
-        let mut sink = MemSink::new(Vec::new(alloc), 8, Vec::new(alloc));
-        let end = status_of(&rt, alloc, &["migrate", kind], &mut source, &mut sink)?;
-        holds(&rt, end == status, &count);
-    }
-    Ok(())
-}
-
-/// A script of as many bytes as may be migrated: 20 of its first two lines, and 19 for each of the others, the last of which lacks its line feed.
-fn longest_script(alloc: Global) -> Result<Vec<u8>, Fail> {
-    let mut text = Vec::from_slice(alloc, b"schism 1\nheap 1 0 1\n")?;
-    for _ in 0..55_186 {
-        text.extend_from_slice(b"0 num 1 1073741823\n")?;
-    }
-    text.extend_from_slice(b"0 num 1 1073741823")?;
-    Ok(text)
-}
-
-// It gets four bytes more, which is as many as a play reads.
+// A script of as many bytes as may be migrated: 20 of its first two lines, and 19 for each of the others, the last of which lacks its line feed. It gets four bytes more, which is as many as
+// a play reads.
 #[test]
 fn plays_the_longest_script_that_was_migrated(rt: HostRuntime) -> Result<(), Fail> {
     let alloc = rt.alloc();
-    let text = longest_script(alloc)?;
+    let lines = "\n0 num 1 1073741823".repeat(alloc, 55_187)?;
+    let text = ["schism 1\nheap 1 0 1", &lines].concat(alloc)?;
     holds(&rt, text.len() == 1_048_572, &"the length");
-    let mut source = NeverSource::new(text);
-    let mut sink = NeverSink::new(Vec::with_capacity(alloc, 1_048_576)?);
-    let end = status_of(&rt, alloc, &["migrate", "script"], &mut source, &mut sink)?;
-    holds(&rt, end == Status::Done, &"the migration");
-    let migrated = Vec::from_slice(alloc, sink.bytes().unwrap_or(&[]))?;
+    let migrated = written(&rt, alloc, "migrate script", text.as_bytes())?;
     holds(&rt, migrated.len() == 1_048_576, &"the length then");
     let told = told(&rt, alloc, "play --brief", &migrated)?;
     let brief =

@@ -1,15 +1,19 @@
 //! Scripts and histories that are migrated to version 2.
 
 use super::collects::RESERVE;
-use super::comparing::tells;
+use super::rows::{Unwritten, Written, comes, writes_nothing};
 use super::several_seats::text_of;
-use super::{FIRST_PLAYED, illegal, refused, told, written};
+use super::{FIRST_PLAYED, written};
 use crate::status::Status;
 use script_text::Cause;
+use std::alloc::Global;
+use std::process::Abort;
+use std::sync::Wait;
 use std::test::Fail;
+use std::thread::Threads;
 
 /// Words, a text without the line feed of its last line, and the text in version 2. Lines stand with "; " between them.
-const MIGRATED: [(&str, &str, &str); 8] = [
+const MIGRATED: [Written; 8] = [
     (
         "migrate script",
         "schism 1; heap 1 0 1",
@@ -53,97 +57,103 @@ const MIGRATED: [(&str, &str, &str); 8] = [
     ),
 ];
 
-// With its last line feed and without it a text is migrated to the same, and that to itself.
+/// With its last line feed and without it the text of a row is migrated to the same, and that to itself.
+fn migrates(
+    rt: &(impl Abort + Threads + Wait + Sync),
+    alloc: Global,
+    &(line, text, wanted): &Written,
+) -> Result<(), Fail> {
+    let (text, wanted) = (text_of(alloc, text)?, text_of(alloc, wanted)?);
+    let without = text.strip_suffix('\n').ok_or("a line feed")?;
+    for whole in [text.as_str(), without, wanted.as_str()] {
+        comes(rt, alloc, line, whole, Status::Done, &wanted)?;
+    }
+    Ok(())
+}
+
 #[test]
 fn migrates_to_version_2(rt: HostRuntime) -> Result<(), Fail> {
-    let alloc = rt.alloc();
-    for (line, text, wanted) in MIGRATED {
-        let (text, wanted) = (text_of(alloc, text)?, text_of(alloc, wanted)?);
-        let without = text.as_bytes().strip_suffix(b"\n").ok_or("a line feed")?;
-        for whole in [text.as_bytes(), without, wanted.as_bytes()] {
-            let told = told(&rt, alloc, line, whole)?;
-            tells(&rt, &told, Status::Done, wanted.as_bytes(), &text);
-        }
+    for row in &MIGRATED {
+        migrates(&rt, rt.alloc(), row)?;
     }
     Ok(())
 }
 
 /// Words, a text that is none of theirs, and the line at which it is refused, for this cause.
-const REFUSED: [(&str, &str, u32, Cause); 7] = [
+const REFUSED: [Unwritten; 7] = [
     (
         "migrate script",
         "history 1 run; heap 1 0 1; end used 11",
-        1,
-        Cause::NoHeader,
+        refused!(1, Cause::NoHeader),
     ),
     (
         "migrate history",
         "schism 1; heap 1 0 1",
-        1,
-        Cause::NoHeader,
+        refused!(1, Cause::NoHeader),
     ),
     (
         "migrate script",
         "schism 1; heap 1 0 1 32",
-        2,
-        Cause::BadHeap,
+        refused!(2, Cause::BadHeap),
     ),
     (
         "migrate script",
         "schism 1; heap 1 0 1; 0 cas 0 1 5 1",
-        3,
-        Cause::NoCommand,
+        refused!(3, Cause::NoCommand),
     ),
     (
         "migrate script",
         "schism 1; heap 1 0 1; 1 poll",
-        3,
-        Cause::NoSeat,
+        refused!(3, Cause::NoSeat),
     ),
     (
         "migrate history",
         "history 1 run; heap 1 0 1; 0 cas 0 1 5 1 = was -; end used 11",
-        3,
-        Cause::BadEntry,
+        refused!(3, Cause::BadEntry),
     ),
     (
         "migrate history",
         "history 1 play; heap 1 0 1; 0 poll = 0",
-        4,
-        Cause::NoEnd,
+        refused!(4, Cause::NoEnd),
     ),
 ];
 
 #[test]
 fn refuses_what_is_no_text_of_the_kind(rt: HostRuntime) -> Result<(), Fail> {
-    let alloc = rt.alloc();
-    for (line, text, number, cause) in REFUSED {
-        let text = text_of(alloc, text)?;
-        let told = told(&rt, alloc, line, text.as_bytes())?;
-        tells(&rt, &told, refused(number, cause), b"", &text);
-    }
+    writes_nothing(&rt, rt.alloc(), &REFUSED)
+}
+
+/// What a check says of a history it says of that in version 2.
+fn checks_both(
+    rt: &(impl Abort + Threads + Wait + Sync),
+    alloc: Global,
+    text: &str,
+    status: Status,
+    verdict: &str,
+) -> Result<(), Fail> {
+    let migrated = written(rt, alloc, "migrate history", text.as_bytes())?;
+    comes(rt, alloc, "check", text, status, verdict)?;
+    comes(
+        rt,
+        alloc,
+        "check",
+        str::from_utf8(&migrated)?,
+        status,
+        verdict,
+    )?;
     Ok(())
 }
 
-// What a check says of a history it says of that in version 2: of the play of one record, of one with a collect, and of that with a wrong line.
+// It is so for the play of one record, for one with a collect, and for that with a wrong line.
 #[test]
 fn checks_what_was_migrated(rt: HostRuntime) -> Result<(), Fail> {
     let alloc = rt.alloc();
+    checks_both(&rt, alloc, FIRST_PLAYED, Status::Done, "legal 15\n")?;
     let reserve = text_of(alloc, RESERVE.1)?;
+    checks_both(&rt, alloc, &reserve, Status::Done, "legal 29\n")?;
     let wrong = text_of(
         alloc,
         "history 1 play; heap 1 0 1; 0 takes 5; 0 new 1 2 = 0.1; space used 16 of 16 spine 0 of 0; end used 16",
     )?;
-    for (text, status, verdict) in [
-        (FIRST_PLAYED, Status::Done, "legal 15\n"),
-        (reserve.as_str(), Status::Done, "legal 29\n"),
-        (wrong.as_str(), illegal(4), ""),
-    ] {
-        let migrated = written(&rt, alloc, "migrate history", text.as_bytes())?;
-        for whole in [text.as_bytes(), &migrated] {
-            let told = told(&rt, alloc, "check", whole)?;
-            tells(&rt, &told, status, verdict.as_bytes(), &text);
-        }
-    }
-    Ok(())
+    checks_both(&rt, alloc, &wrong, illegal!(4), "")
 }

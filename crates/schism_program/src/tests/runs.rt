@@ -7,15 +7,18 @@ mod paced;
 mod past_pace;
 mod second;
 
-use super::comparing::{holds, tells};
+use super::comparing::holds;
+use super::rows::comes;
 use super::several_seats::text_of;
-use super::{refused, told, told_at, usual, when_done, written};
+use super::{told_at, usual, when_done, written};
+use crate::status::Status;
 use gates::{OneAfterTheOther, TwoAtOnce};
 use heap_model::{Gate, OpenGate};
-use judging::{begins_line, has_line, judge};
+use judging::{has_a_row, has_all, judge};
 use paced::Paced;
 use past_pace::PastThePace;
 use script_text::Cause;
+use slack_pace::Paces;
 use std::alloc::Global;
 use std::process::Abort;
 use std::sync::Wait;
@@ -25,7 +28,21 @@ use std::thread::Threads;
 /// The words of a run: on a table that the seats share, and behind one lock.
 const RUNS: [&str; 2] = ["run", "run --locked"];
 
-/// What a run of the script tells, which is done and legal. Lines stand with "; " between them.
+/// What a run of the script tells at these paces, which is done. Lines stand with "; " between them.
+fn told_by<G: Gate>(
+    rt: &(impl Abort + Threads + Wait + Sync),
+    alloc: Global,
+    line: &str,
+    script: &str,
+    gate: &G,
+    paces: Paces,
+) -> Result<Vec<u8>, Fail> {
+    let script = text_of(alloc, script)?;
+    let told = told_at(rt, alloc, line, script.as_bytes(), gate, paces)?;
+    Ok(when_done(rt, told, line))
+}
+
+/// What it tells at the program's paces, which is legal too.
 fn ran<G: Gate>(
     rt: &(impl Abort + Threads + Wait + Sync),
     alloc: Global,
@@ -33,73 +50,95 @@ fn ran<G: Gate>(
     script: &str,
     gate: &G,
 ) -> Result<Vec<u8>, Fail> {
-    let script = text_of(alloc, script)?;
-    let told = told_at(rt, alloc, line, script.as_bytes(), gate, usual(alloc)?)?;
-    let history = when_done(rt, told, line);
+    let history = told_by(rt, alloc, line, script, gate, usual(alloc)?)?;
     written(rt, alloc, "check", &history)?;
-    judge_locked(alloc, line, &history)?;
-    holds(rt, has_line(&history, b"end used 0"), &script);
+    judge_locked(rt, alloc, line, &history)?;
+    holds(rt, has_all(&history, &["\nend used 0\n"]), &script);
     Ok(history)
 }
 
+/// Such a run, whose history has all parts of one of these rows.
+fn tells_a_row<G: Gate>(
+    rt: &(impl Abort + Threads + Wait + Sync),
+    alloc: Global,
+    line: &str,
+    script: &str,
+    gate: &G,
+    rows: &[&[&str]],
+) -> Result<(), Fail> {
+    let history = ran(rt, alloc, line, script, gate)?;
+    holds(rt, has_a_row(&history, rows), &line);
+    Ok(())
+}
+
 /// Judges the history by all the rules of a run where it was made behind one lock: else its logs stand one behind the other as far as objects allow, and no more is said of their order.
-fn judge_locked(alloc: Global, line: &str, history: &[u8]) -> Result<(), Fail> {
-    if line.split(' ').any(|word| word == "--locked") {
-        judge(alloc, history)?;
+fn judge_locked(rt: &impl Abort, alloc: Global, line: &str, history: &[u8]) -> Result<(), Fail> {
+    if line.contains("--locked") {
+        holds(rt, judge(alloc, history)?, &line);
     }
     Ok(())
 }
 
-// Each seat goes on to its second command only once the other one has come there too: so no thread made both scripts. Of the two sets one
-// found the field as it opened, and the other one replaced what that had set.
+/// What is told of two seats that share a field: one found it as it opened, and the other one replaced what that had set.
+const SHARED: [&[&str]; 2] = [
+    &["\n0 set 0 3 1 = was -\n", "\n1 set 0 3 1 = was 0:1\n"],
+    &["\n1 set 0 3 1 = was -\n", "\n0 set 0 3 1 = was 1:1\n"],
+];
+
+// Each seat goes on to its second command only once the other one has come there too: so no thread made both scripts.
 #[test]
 fn shares_a_field(rt: HostRuntime) -> Result<(), Fail> {
     let script =
         "schism 1; heap 1 0 2; 0 num 1 5; 0 set 0 3 1; 0 get 2 0 3; 1 num 1 6; 1 set 0 3 1; 1 get 2 0 3";
     for line in RUNS {
         let gate = TwoAtOnce::new();
-        let history = ran(&rt, rt.alloc(), line, script, &gate)?;
+        tells_a_row(&rt, rt.alloc(), line, script, &gate, &SHARED)?;
         holds(&rt, gate.met(3), &line);
-        let first = has_line(&history, b"0 set 0 3 1 = was -")
-            && has_line(&history, b"1 set 0 3 1 = was 0:1");
-        let second = has_line(&history, b"1 set 0 3 1 = was -")
-            && has_line(&history, b"0 set 0 3 1 = was 1:1");
-        holds(&rt, first || second, &line);
     }
     Ok(())
 }
 
+/// A script, how much is claimed in all before each command of seat 0, how many commands seat 1 has, and how a line begins that is told.
+type Claim = (&'static str, &'static [u64], u64, &'static str);
+
 // Seat 0 goes on to each of its commands only once the pace was asked anew, and then in all with what it has claimed so far: nothing, and the five fragments of group 0. In
 // the second script the collect sees a whole cycle, so seat 1, which never polls, has left by then: held back until the pace was asked a thousand times, while seat 0 finds it
 // behind. The pace is asked further behind that leave.
+const CLAIMS: [Claim; 2] = [
+    (
+        "schism 1; heap 1 0 1; 0 new 1 2; 0 poll",
+        &[0, 5],
+        0,
+        "\n0 new 1 2 = 0.0",
+    ),
+    (
+        "schism 1; heap 1 0 2; 0 collect; 0 new 1 2; 0 poll; 1 nil 1",
+        &[0, 0, 5],
+        1,
+        "\n0 collect = cycle",
+    ),
+];
+
+/// Runs the script of a row at a pace that waits.
+fn asks_the_pace(
+    rt: &(impl Abort + Threads + Wait + Sync),
+    alloc: Global,
+    line: &str,
+    &(script, claims, others, reply): &Claim,
+) -> Result<(), Fail> {
+    let gate = Paced::new(alloc, claims, 1000)?;
+    let history = told_by(rt, alloc, line, script, &gate, gate.paces(alloc)?)?;
+    judge_locked(rt, alloc, line, &history)?;
+    holds(rt, gate.was_right(others), &script);
+    holds(rt, has_all(&history, &[reply]), &script);
+    Ok(())
+}
+
 #[test]
 fn asks_the_pace_for_what_was_claimed(rt: HostRuntime) -> Result<(), Fail> {
-    let alloc = rt.alloc();
-    let alone: &'static [u64] = &[0, 5];
-    let behind: &'static [u64] = &[0, 0, 5];
-    for (script, claims, others, reply) in [
-        (
-            "schism 1; heap 1 0 1; 0 new 1 2; 0 poll",
-            alone,
-            0,
-            "0 new 1 2 = 0.0",
-        ),
-        (
-            "schism 1; heap 1 0 2; 0 collect; 0 new 1 2; 0 poll; 1 nil 1",
-            behind,
-            1,
-            "0 collect = cycle",
-        ),
-    ] {
-        let text = text_of(alloc, script)?;
-        for line in ["run --patience 1000000", "run --locked --patience 1000000"] {
-            let (gate, paces) = Paced::new(alloc, claims, 1000)?;
-            let told = told_at(&rt, alloc, line, text.as_bytes(), &gate, paces)?;
-            let history = when_done(&rt, told, line);
-            judge_locked(alloc, line, &history)?;
-            holds(&rt, gate.was_right(others), &script);
-            holds(&rt, begins_line(&history, reply.as_bytes()), &script);
-        }
+    for claim in &CLAIMS {
+        asks_the_pace(&rt, rt.alloc(), "run --patience 1000000", claim)?;
+        asks_the_pace(&rt, rt.alloc(), "run --locked --patience 1000000", claim)?;
     }
     Ok(())
 }
@@ -108,11 +147,9 @@ fn asks_the_pace_for_what_was_claimed(rt: HostRuntime) -> Result<(), Fail> {
 #[test]
 fn collects_alone(rt: HostRuntime) -> Result<(), Fail> {
     let script = "schism 1; heap 1 0 1; 0 new 1 2; 0 nil 1; 0 collect";
+    let rows: [&[&str]; 2] = [&["\n0 collect = cycle 0\n"], &["\n0 collect = cycle 1\n"]];
     for line in RUNS {
-        let history = ran(&rt, rt.alloc(), line, script, &OpenGate)?;
-        let first = has_line(&history, b"0 collect = cycle 0");
-        let second = has_line(&history, b"0 collect = cycle 1");
-        holds(&rt, first || second, &line);
+        tells_a_row(&rt, rt.alloc(), line, script, &OpenGate, &rows)?;
     }
     Ok(())
 }
@@ -121,6 +158,7 @@ fn collects_alone(rt: HostRuntime) -> Result<(), Fail> {
 #[test]
 fn waits_for_a_seat_that_never_polls(rt: HostRuntime) -> Result<(), Fail> {
     let script = "schism 1; heap 1 0 2; 0 collect; 0 poll; 1 poll";
+    let waits: [&[&str]; 1] = [&["\n0 collect = waits 1 answered 0 phase 1\n"]];
     for line in [
         "run --patience 3",
         "run --patience 3 --locked",
@@ -128,35 +166,57 @@ fn waits_for_a_seat_that_never_polls(rt: HostRuntime) -> Result<(), Fail> {
         "run --locked",
     ] {
         let gate = OneAfterTheOther::new();
-        let history = ran(&rt, rt.alloc(), line, script, &gate)?;
-        let waits = has_line(&history, b"0 collect = waits 1 answered 0 phase 1");
-        holds(&rt, waits, &line);
+        tells_a_row(&rt, rt.alloc(), line, script, &gate, &waits)?;
     }
     Ok(())
 }
 
 #[test]
 fn refuses_lines_of_the_collector(rt: HostRuntime) -> Result<(), Fail> {
-    let script = b"schism 1\nheap 1 0 1\nc turns 2\nc turns 5\n";
+    let script = "schism 1\nheap 1 0 1\nc turns 2\nc turns 5\n";
     for line in RUNS {
-        let told = told(&rt, rt.alloc(), line, script)?;
-        tells(&rt, &told, refused(3, Cause::NoSeat), b"", &line);
+        comes(
+            &rt,
+            rt.alloc(),
+            line,
+            script,
+            refused!(3, Cause::NoSeat),
+            "",
+        )?;
+    }
+    Ok(())
+}
+
+/// Runs the script, whose history is legal.
+fn runs(
+    rt: &(impl Abort + Threads + Wait + Sync),
+    alloc: Global,
+    line: &str,
+    script: &[u8],
+) -> Result<(), Fail> {
+    let history = written(rt, alloc, line, script)?;
+    written(rt, alloc, "check", &history)?;
+    judge_locked(rt, alloc, line, &history)
+}
+
+/// Runs the script that these words make, ten times by each of the words of a run.
+fn runs_made(
+    rt: &(impl Abort + Threads + Wait + Sync),
+    alloc: Global,
+    made: &str,
+) -> Result<(), Fail> {
+    let script = written(rt, alloc, made, b"")?;
+    for _ in 0..10 {
+        runs(rt, alloc, "run", &script)?;
+        runs(rt, alloc, "run --locked", &script)?;
     }
     Ok(())
 }
 
 #[test]
 fn runs_made_scripts(rt: HostRuntime) -> Result<(), Fail> {
-    let alloc = rt.alloc();
     for made in ["make 7 2 200", "make 7 4 200", "make 7 16 320"] {
-        let script = written(&rt, alloc, made, b"")?;
-        for line in RUNS {
-            for _ in 0..10 {
-                let history = written(&rt, alloc, line, &script)?;
-                written(&rt, alloc, "check", &history)?;
-                judge_locked(alloc, line, &history)?;
-            }
-        }
+        runs_made(&rt, rt.alloc(), made)?;
     }
     Ok(())
 }
@@ -167,10 +227,8 @@ fn goes_past_the_pace(rt: HostRuntime) -> Result<(), Fail> {
     let alloc = rt.alloc();
     let script =
         "schism 1; heap 1 0 2; 0 num 1 5; 0 set 0 3 1; 0 get 2 0 3; 1 num 1 6; 1 set 0 3 1; 1 get 2 0 3";
-    let text = text_of(alloc, script)?;
-    let (gate, paces) = PastThePace::new(alloc)?;
-    let told = told_at(&rt, alloc, "run", text.as_bytes(), &gate, paces)?;
-    when_done(&rt, told, "run");
+    let gate = PastThePace::new(alloc)?;
+    told_by(&rt, alloc, "run", script, &gate, gate.paces(alloc)?)?;
     holds(&rt, gate.met(), &"run");
     Ok(())
 }

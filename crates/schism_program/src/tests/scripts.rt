@@ -1,8 +1,7 @@
 //! Scripts that are played, with their histories and what the check of these says, and one that is refused.
 
-use super::comparing::tells;
-use super::several_seats::plays;
-use super::{ended, refused};
+use super::several_seats::{ends_so, plays};
+use crate::status::Status;
 use script_text::Cause;
 use std::test::Fail;
 
@@ -65,14 +64,7 @@ fn plays_scripts_and_checks_the_plays(rt: HostRuntime) -> Result<(), Fail> {
 
 #[test]
 fn refuses_a_number_that_begins_with_a_zero(rt: HostRuntime) -> Result<(), Fail> {
-    let text = b"schism 1\nheap 1 0 1\n0 poll\n0 num 1 01\n";
-    let told = ended(&rt, rt.alloc(), &["play"], text, &[], &[])?;
-    tells(
-        &rt,
-        &told,
-        refused(4, Cause::BadNumber),
-        b"",
-        &"a zero first",
-    );
-    Ok(())
+    let text = "schism 1\nheap 1 0 1\n0 poll\n0 num 1 01\n";
+    let rows = [(text, refused!(4, Cause::BadNumber), "")];
+    ends_so(&rt, rt.alloc(), "play", &rows)
 }

@@ -68,11 +68,8 @@ const CURSORS: (&str, &str, &str) = (
 
 /// The text of these lines.
 pub(super) fn text_of(alloc: Global, lines: &str) -> Result<String, AllocError> {
-    let mut text = String::new(alloc);
-    for line in lines.split("; ") {
-        text.push_str(line)?;
-        text.push('\n')?;
-    }
+    let mut text = lines.replace(alloc, "; ", "\n")?;
+    text.push('\n')?;
     Ok(text)
 }
 
@@ -100,6 +97,20 @@ pub(super) fn plays_by(
         let told = ended(rt, alloc, &["check"], history.as_bytes(), &[], &[])?;
         let verdict = text_of(alloc, verdict)?;
         tells(rt, &told, Status::Done, verdict.as_bytes(), &script);
+    }
+    Ok(())
+}
+
+/// Compares what comes of the word and each row's text, whose reads give 5 bytes a call, with its status and with what is written.
+pub(super) fn ends_so(
+    rt: &(impl Abort + Threads + Wait + Sync),
+    alloc: Global,
+    word: &str,
+    rows: &[(&str, Status, &str)],
+) -> Result<(), Fail> {
+    for &(text, status, written) in rows {
+        let told = ended(rt, alloc, &[word], text.as_bytes(), &[], &[])?;
+        tells(rt, &told, status, written.as_bytes(), &text);
     }
     Ok(())
 }

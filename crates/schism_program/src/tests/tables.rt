@@ -50,7 +50,7 @@ fn leaves(
 #[test]
 fn leaves_the_table_of_a_run(rt: HostRuntime) -> Result<(), Fail> {
     let mut closed = None;
-    for (line, text, left) in WORKS {
+    for &(line, text, left) in &WORKS {
         let found = leaves(&rt, rt.alloc(), line, text, &mut closed)?;
         holds(&rt, found == left, &line);
     }

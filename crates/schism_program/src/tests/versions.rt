@@ -1,8 +1,7 @@
 //! Texts of version 2: plays, briefs, plans and verdicts, and what is refused in either version.
 
-use super::comparing::tells;
-use super::several_seats::{plays, text_of};
-use super::{illegal, refused, told};
+use super::rows::{Unwritten, Written, writes_each, writes_nothing};
+use super::several_seats::plays;
 use crate::status::Status;
 use script_text::Cause;
 use std::test::Fail;
@@ -45,7 +44,7 @@ fn plays_scripts_of_version_2(rt: HostRuntime) -> Result<(), Fail> {
 }
 
 /// Words, a text, and what is written of it.
-const WRITTEN: [(&str, &str, &str); 4] = [
+const WRITTEN: [Written; 4] = [
     (
         "play --brief",
         "schism 2; heap 1 0 1 2; 0 num 1 7; 0 cas 0 1 5 1; 0 cas 0 1 5 1; 0 get 2 0 1; 0 num 3 8; 0 cas 0 1 2 3",
@@ -70,129 +69,136 @@ const WRITTEN: [(&str, &str, &str); 4] = [
 
 #[test]
 fn tells_the_heap_line_of_version_2(rt: HostRuntime) -> Result<(), Fail> {
-    let alloc = rt.alloc();
-    for (line, text, wanted) in WRITTEN {
-        let (text, wanted) = (text_of(alloc, text)?, text_of(alloc, wanted)?);
-        let told = told(&rt, alloc, line, text.as_bytes())?;
-        tells(&rt, &told, Status::Done, wanted.as_bytes(), &text);
-    }
-    Ok(())
+    writes_each(&rt, rt.alloc(), &WRITTEN)
 }
 
 /// Words, a text, and the line at which it is refused, for this cause.
-const REFUSED: [(&str, &str, u32, Cause); 16] = [
+const REFUSED: [Unwritten; 16] = [
     (
         "play",
         "schism 1; heap 1 0 1; 0 cas 0 1 5 1",
-        3,
-        Cause::NoCommand,
+        refused!(3, Cause::NoCommand),
     ),
     (
         "run",
         "schism 1; heap 1 0 1; 0 cas 0 1 5 1",
-        3,
-        Cause::NoCommand,
+        refused!(3, Cause::NoCommand),
     ),
-    ("play", "schism 1; heap 1 0 1 32", 2, Cause::BadHeap),
-    ("play", "schism 2; heap 1 0 1", 2, Cause::BadHeap),
-    ("run", "schism 2; heap 1 0 1", 2, Cause::BadHeap),
-    ("play", "schism 2; heap 1 0 1 2 2", 2, Cause::BadHeap),
-    ("play", "schism 2; heap 1 0 1 0", 2, Cause::BadHeap),
-    ("play", "schism 2; heap 1 0 1 48", 2, Cause::BadHeap),
+    (
+        "play",
+        "schism 1; heap 1 0 1 32",
+        refused!(2, Cause::BadHeap),
+    ),
+    ("play", "schism 2; heap 1 0 1", refused!(2, Cause::BadHeap)),
+    ("run", "schism 2; heap 1 0 1", refused!(2, Cause::BadHeap)),
+    (
+        "play",
+        "schism 2; heap 1 0 1 2 2",
+        refused!(2, Cause::BadHeap),
+    ),
+    (
+        "play",
+        "schism 2; heap 1 0 1 0",
+        refused!(2, Cause::BadHeap),
+    ),
+    (
+        "play",
+        "schism 2; heap 1 0 1 48",
+        refused!(2, Cause::BadHeap),
+    ),
     (
         "play",
         "schism 2; heap 1 0 1 2; 0 cas 16 1 5 1",
-        3,
-        Cause::OutOfRange,
+        refused!(3, Cause::OutOfRange),
     ),
     (
         "play",
         "schism 2; heap 1 0 1 2; 0 cas 0 1 5",
-        3,
-        Cause::BadNumber,
+        refused!(3, Cause::BadNumber),
     ),
     (
         "play",
         "schism 2; heap 1 0 1 2; c cas 0 1 5 1",
-        3,
-        Cause::NoCommand,
+        refused!(3, Cause::NoCommand),
     ),
-    ("play", "schism 3; heap 1 0 1 2", 1, Cause::NoHeader),
+    (
+        "play",
+        "schism 3; heap 1 0 1 2",
+        refused!(1, Cause::NoHeader),
+    ),
     (
         "check",
         "history 3 run; heap 1 0 1 2; end used 1",
-        1,
-        Cause::NoHeader,
+        refused!(1, Cause::NoHeader),
     ),
     (
         "check",
         "history 2 run; heap 1 0 1; end used 11",
-        2,
-        Cause::BadHeap,
+        refused!(2, Cause::BadHeap),
     ),
     (
         "check",
         "history 1 run; heap 1 0 1 2; end used 1",
-        2,
-        Cause::BadHeap,
+        refused!(2, Cause::BadHeap),
     ),
     (
         "check",
         "history 1 run; heap 1 0 1; 0 cas 0 1 5 1 = was -; end used 11",
-        3,
-        Cause::BadEntry,
+        refused!(3, Cause::BadEntry),
     ),
 ];
 
 #[test]
 fn refuses_what_is_of_the_other_version(rt: HostRuntime) -> Result<(), Fail> {
-    let alloc = rt.alloc();
-    for (line, text, number, cause) in REFUSED {
-        let text = text_of(alloc, text)?;
-        let told = told(&rt, alloc, line, text.as_bytes())?;
-        tells(&rt, &told, refused(number, cause), b"", &text);
-    }
-    Ok(())
+    writes_nothing(&rt, rt.alloc(), &REFUSED)
 }
 
-/// Histories, and the first line of each that isn't legal: a cas that tells `now` where the field is as it expects, and `was` where it isn't, or shows another stamp, or has no field; and what is in
+/// The word by which histories are checked, and the first line of each that isn't legal: a cas that tells `now` where the field is as it expects, and `was` where it isn't, or shows another stamp, or has no field; and what is in
 /// use where a board of another size opens.
-const ILLEGAL: [(&str, u32); 8] = [
+const ILLEGAL: [Unwritten; 8] = [
     (
+        "check",
         "history 2 run; heap 1 0 1 2; 0 cas 0 1 5 1 = now -; end used 1",
-        3,
+        illegal!(3),
     ),
     (
+        "check",
         "history 2 run; heap 1 0 1 2; 0 num 1 7 = ok; 0 cas 0 1 5 1 = was -; 0 cas 0 1 5 1 = was 0:1; end used 1",
-        5,
+        illegal!(5),
     ),
     (
+        "check",
         "history 2 run; heap 1 0 1 2; 0 num 1 7 = ok; 0 cas 0 1 5 1 = was -; 0 cas 0 1 5 1 = now 0:2; end used 1",
-        5,
+        illegal!(5),
     ),
     (
+        "check",
         "history 2 run; heap 1 0 1 2; 0 cas 0 2 5 1 = was -; end used 1",
-        3,
+        illegal!(3),
     ),
-    ("history 2 run; heap 1 0 1 2; 0 len 0 = 32; end used 1", 3),
-    ("history 2 run; heap 1 0 1 47; end used 11", 3),
     (
+        "check",
+        "history 2 run; heap 1 0 1 2; 0 len 0 = 32; end used 1",
+        illegal!(3),
+    ),
+    (
+        "check",
+        "history 2 run; heap 1 0 1 47; end used 11",
+        illegal!(3),
+    ),
+    (
+        "check",
         "history 2 play; heap 1 0 1 2; space used 11 of 16 spine 0 of 0; end used 1",
-        3,
+        illegal!(3),
     ),
     (
+        "check",
         "history 2 play; heap 1 0 1 2; 0 takes 16; space used 17 of 16 spine 0 of 0; end used 17",
-        3,
+        illegal!(3),
     ),
 ];
 
 #[test]
 fn finds_histories_of_version_2_not_legal(rt: HostRuntime) -> Result<(), Fail> {
-    let alloc = rt.alloc();
-    for (text, line) in ILLEGAL {
-        let text = text_of(alloc, text)?;
-        let told = told(&rt, alloc, "check", text.as_bytes())?;
-        tells(&rt, &told, illegal(line), b"", &text);
-    }
-    Ok(())
+    writes_nothing(&rt, rt.alloc(), &ILLEGAL)
 }

@@ -34,6 +34,12 @@ impl Pace for Telling {
     }
 }
 
+/// The paces of a run that goes by this one.
+pub fn paces_by(alloc: Global, steady: Box<dyn Pace>) -> Result<Paces, AllocError> {
+    let debt = Box::new(alloc, Steady)?;
+    Ok(Paces { steady, debt })
+}
+
 /// Before each of its commands seat 0 waits until the pace was asked twice more, so once from its begin on, after which it was asked in all with what the commands before have
 /// claimed. Seat 1 waits before its first command until the pace was asked so often since seat 0 came to its own.
 #[derive(Drop)]
@@ -48,33 +54,27 @@ pub struct Paced {
 }
 
 impl Paced {
-    /// The gate, and the paces of a run that it goes with: so much is claimed in all before each command of seat 0.
-    pub fn new(
-        alloc: Global,
-        claims: &'static [u64],
-        holds: u64,
-    ) -> Result<(Paced, Paces), AllocError> {
-        let asked = Arc::new(
-            alloc,
-            Asked {
-                times: AtomicU64::new(0),
-                claimed: AtomicU64::new(0),
-            },
-        )?;
-        let paces = Paces {
-            steady: Box::new(alloc, Telling(asked.clone()?))?,
-            debt: Box::new(alloc, Steady)?,
+    /// A gate before whose commands of seat 0 so much is claimed in all.
+    pub fn new(alloc: Global, claims: &'static [u64], holds: u64) -> Result<Paced, AllocError> {
+        let asked = Asked {
+            times: AtomicU64::new(0),
+            claimed: AtomicU64::new(0),
         };
-        let gate = Paced {
-            asked,
+        Ok(Paced {
+            asked: Arc::new(alloc, asked)?,
             claims,
             holds,
             passes: Passes::new(),
             right: AtomicU64::new(0),
             begun: AtomicU64::new(0),
             other: Passes::new(),
-        };
-        Ok((gate, paces))
+        })
+    }
+
+    /// The paces of a run that the gate goes with.
+    pub fn paces(&self, alloc: Global) -> Result<Paces, AllocError> {
+        let telling = Telling(self.asked.clone()?);
+        paces_by(alloc, Box::new(alloc, telling)?)
     }
 
     /// Whether the pace was asked so often more, and then with so much in all.

@@ -1,8 +1,9 @@
 //! A gate and a pace that hold each other: seats that go on while the pace is asked.
 
 use super::gates::comes_to;
+use super::paced::paces_by;
 use heap_model::Gate;
-use slack_pace::{Pace, Paces, Steady};
+use slack_pace::{Pace, Paces};
 use std::alloc::{AllocError, Global};
 use std::sync::Arc;
 use std::sync::atomic::{AtomicU64, Ordering};
@@ -41,21 +42,19 @@ impl Pace for Waiting {
 pub struct PastThePace(Arc<Flags>);
 
 impl PastThePace {
-    /// The gate, and the paces of a run that it goes with.
-    pub fn new(alloc: Global) -> Result<(PastThePace, Paces), AllocError> {
-        let flags = Arc::new(
-            alloc,
-            Flags {
-                asked: AtomicU64::new(0),
-                here: AtomicU64::new(0),
-                met: AtomicU64::new(0),
-            },
-        )?;
-        let paces = Paces {
-            steady: Box::new(alloc, Waiting(flags.clone()?))?,
-            debt: Box::new(alloc, Steady)?,
+    pub fn new(alloc: Global) -> Result<PastThePace, AllocError> {
+        let flags = Flags {
+            asked: AtomicU64::new(0),
+            here: AtomicU64::new(0),
+            met: AtomicU64::new(0),
         };
-        Ok((PastThePace(flags), paces))
+        Ok(PastThePace(Arc::new(alloc, flags)?))
+    }
+
+    /// The paces of a run that the gate goes with.
+    pub fn paces(&self, alloc: Global) -> Result<Paces, AllocError> {
+        let waiting = Waiting(self.0.clone()?);
+        paces_by(alloc, Box::new(alloc, waiting)?)
     }
 
     /// Whether both seats came to their third command while the pace was asked.
