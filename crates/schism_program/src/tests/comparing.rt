@@ -15,8 +15,8 @@ pub(super) fn tells(
     at: &impl Display,
 ) {
     let (status, bytes) = found;
-    holds(rt, *status == end, at);
-    holds(rt, bytes.as_slice() == written, at);
+    assert_eq!(rt; *status, end, "at {at}");
+    assert_eq!(rt; bytes.as_slice(), written, "at {at}");
 }
 
 /// What was wanted holds, at this point of a test.
