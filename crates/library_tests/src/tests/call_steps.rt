@@ -14,7 +14,7 @@ use super::comparing::same;
 use arrayvec::ArrayVec;
 use core_machine::Log;
 use frag_claim::{Hand, Reserve, gather};
-use heap_model::{Command, Entry, Full, Heap, Id, Memory};
+use heap_model::{Command, Full, Heap, Id, Memory};
 use heap_table::{HeapTable, Holder};
 use object_chain::bear_record;
 use std::alloc::Global;

@@ -9,7 +9,7 @@ ghost use Rattle.core_machine.specs.declared.point.Point.TheVariants.{Making};
 use super::{has, kept, lone_seat, no_fragments, takes_in_vain, tells};
 use crate::tests::comparing::same;
 use array_spine::{Budget, SpineFull, bear_array, cell_at, drop_budget, take_budget};
-use core_machine::{Access, AccessStep, Step};
+use core_machine::Access;
 use frag_claim::{Hand, gather};
 use heap_model::{Command, Entry, Id, Memory};
 use heap_table::Holder;

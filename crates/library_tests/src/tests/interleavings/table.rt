@@ -1,4 +1,4 @@
-ghost use Rattle.std.specs.Prelude.{◌≤◌, ◌<◌};
+ghost use Rattle.std.specs.Prelude.{◌≤◌};
 ghost use Rattle.heap_model.specs.Heap.{IsHeap};
 ghost use Rattle.script_text.specs.Made.{most_start};
 

@@ -1,6 +1,6 @@
 //! Two seats of one table swap a field of the board in threads of their own, beside the collector's turns: what all have told goes together.
 
-ghost use Rattle.std.specs.Prelude.{◌≡◌, IfOk};
+ghost use Rattle.std.specs.Prelude.{IfOk};
 ghost use Rattle.heap_model.specs.Heap.{IsHeap};
 ghost use Rattle.library_tests.specs.SameSeat.{IsSameSeat, IsSameTable};
 
