@@ -1,8 +1,7 @@
 ghost use Rattle.heap_model.specs.Heap.{IsHeap};
 
 use super::player::Told;
-use crate::tests::books::accepts;
-use heap_model::{Account, Entry, Graph, Heap, Memory};
+use heap_model::{Account, ApplyFault, Entry, Graph, Heap, Memory};
 use heap_table::Closed;
 use std::alloc::Global;
 
@@ -17,17 +16,36 @@ pub(super) enum Fault {
     InUse,
 }
 
-/// Counts the entries in both books: the first that may not stand where it came, or that something is in use at the end.
-fn first_fault(
-    graph: &mut Graph,
-    account: &mut Account,
-    told: &Told,
-) -> Result<Option<Fault>, Memory> {
+/// Counts the entry in both books, if it may stand there in a run.
+fn accepts(graph: &mut Graph, account: &mut Account, entry: &Entry) -> Result<bool, Memory> {
+    if account.entries() >= MOST_ENTRIES || !account.has_seat(entry) {
+        return Ok(false);
+    }
+    let counted = match account.apply(graph, entry, false) {
+        Ok(()) => graph.apply(entry),
+        Err(fault) => Err(fault),
+    };
+    match counted {
+        Ok(()) => Ok(true),
+        Err(ApplyFault::NotLegal) => Ok(false),
+        Err(ApplyFault::Memory) => Err(Memory),
+    }
+}
+
+/// More entries than a play here has.
+const MOST_ENTRIES: u64 = 1_000_000;
+
+/// The first entry that may not stand where it came, or that something is in use at the end.
+fn fault_among(alloc: Global, heap: Heap, told: &Told) -> Result<Option<Fault>, Memory>
+    requires { IsHeap heap }
+{
+    let mut graph = Graph::new(alloc, heap)?;
+    let mut account = Account::new(alloc, heap)?;
     for (position, entry) in told.iter().enumerate() {
         let Some(entry) = entry else {
             return Ok(Some(Fault::NotLegal(position)));
         };
-        if !accepts(graph, account, entry)? {
+        if !accepts(&mut graph, &mut account, entry)? {
             return Ok(Some(Fault::NotLegal(position)));
         }
     }
@@ -37,24 +55,15 @@ fn first_fault(
     Ok(None)
 }
 
-/// The first fault of what was told on a heap that opened.
-fn fault_among(alloc: Global, heap: Heap, told: &Told) -> Result<Option<Fault>, Memory>
-    requires { IsHeap heap }
-{
-    let mut graph = Graph::new(alloc, heap)?;
-    let mut account = Account::new(alloc, heap)?;
-    first_fault(&mut graph, &mut account, told)
-}
-
-/// The party's entries.
-fn entries_of(alloc: Global, told: &Told, party: Option<u8>) -> Result<Vec<Entry>, Memory> {
-    let mut entries = Vec::new(alloc);
+/// Whether the party's entries are exactly these.
+fn has_told(told: &Told, party: Option<u8>, log: &[Entry]) -> bool {
+    let mut rest = log.iter();
     for entry in told.iter().flatten() {
-        if entry.seat() == party {
-            entries.push(*entry)?;
+        if entry.seat() == party && rest.next() != Some(entry) {
+            return false;
         }
     }
-    Ok(entries)
+    rest.next().is_none()
 }
 
 /// What is wrong with a play that has told this, if anything is.
@@ -70,7 +79,7 @@ pub(super) fn fault_in(
         let party = u8::try_from(position)
             .ok()
             .filter(|&seat| seat < heap.seats);
-        if entries_of(alloc, told, party)?.as_slice() != log.as_slice() {
+        if !has_told(told, party, log.as_slice()) {
             return Ok(Some(Fault::OtherLog(position)));
         }
     }

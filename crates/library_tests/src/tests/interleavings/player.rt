@@ -107,7 +107,12 @@ impl Player {
     fn note(&mut self, before: usize, told: &mut Told) -> Result<(), Memory>
         ensures { self.new.holder ≡ self.old.holder }
     {
-        note(self.holder.log(), before, &mut self.awaited, told)?;
+        for entry in self.holder.log().iter().skip(before) {
+            match self.awaited.take() {
+                Some(position) => put(told, position, *entry),
+                None => told.push(Some(*entry))?,
+            }
+        }
         if let Point::Access(Access::Naming) = self.holder.party().point() {
             self.awaited = Some(told.len());
             told.push(None)?;
@@ -116,27 +121,9 @@ impl Player {
     }
 }
 
-/// Notes the entries behind so many, of which the first stands where one is awaited.
-pub(super) fn note(
-    log: &[Entry],
-    before: usize,
-    awaited: &mut Option<usize>,
-    told: &mut Told,
-) -> Result<(), Memory> {
-    for entry in log.iter().skip(before) {
-        put(told, awaited.take(), *entry)?;
+/// The entry that was awaited at this position stands there.
+fn put(told: &mut Told, position: usize, entry: Entry) {
+    if let Some(awaited) = told.get_mut(position) {
+        *awaited = Some(entry);
     }
-    Ok(())
-}
-
-/// The entry stands where it was awaited, or else behind all others.
-fn put(told: &mut Told, awaited: Option<usize>, entry: Entry) -> Result<(), Memory> {
-    let Some(position) = awaited else {
-        told.push(Some(entry))?;
-        return Ok(());
-    };
-    if let Some(place) = told.get_mut(position) {
-        *place = Some(entry);
-    }
-    Ok(())
 }

@@ -1,9 +1,9 @@
-ghost use Rattle.std.specs.Prelude.{◌≤◌};
+ghost use Rattle.std.specs.Prelude.{◌≤◌, ◌<◌};
 ghost use Rattle.heap_model.specs.Heap.{IsHeap};
 ghost use Rattle.script_text.specs.Made.{most_start};
 
 use super::draws::Draws;
-use super::player::{Player, Told, note, players_of};
+use super::player::{Player, Told, players_of};
 use core_machine::Log;
 use heap_model::{Heap, Memory, Turn};
 use heap_table::{Closed, CollectorHolder, HeapTable};
@@ -36,14 +36,6 @@ impl Model for Table {
     ghost view = { λ table. table.collector };
 
     ghost invariant = { λ table. All (λ player. IsOfTable table.collector player.holder) table.players.items };
-}
-
-/// The seat for which the turn waited.
-fn waited_for(turn: &Turn) -> Option<u8> {
-    match *turn {
-        Turn::Waits { seat, .. } => Some(seat),
-        _ => None,
-    }
 }
 
 impl Table {
@@ -81,8 +73,13 @@ impl Table {
         self.collector.room(2)?;
         let before = self.collector.log().len();
         let turn = self.collector.turn().1;
-        self.waited = waited_for(&turn);
-        note(self.collector.log(), before, &mut None, &mut self.told)?;
+        self.waited = match turn {
+            Turn::Waits { seat, .. } => Some(seat),
+            _ => None,
+        };
+        for entry in self.collector.log().iter().skip(before) {
+            self.told.push(Some(*entry))?;
+        }
         Ok(turn)
     }
 
@@ -113,28 +110,6 @@ impl Table {
         }
     }
 
-    /// Steps and begins until every seat has left, in an order that is drawn from this start.
-    fn go_on_to_the_end(&mut self, start: u32) -> Result<(), Memory> {
-        let mut draws = Draws::from(start);
-        let turns = 1 + draws.below(8);
-        for _ in 0..MANY {
-            if self.have_left() {
-                break;
-            }
-            self.go_on(&mut draws, turns)?;
-        }
-        Ok(())
-    }
-
-    /// Folds in so many seats, and makes turns up to the end of a last whole cycle.
-    fn end(&mut self, seats: u8) -> Result<(), Memory> {
-        for _ in 0..seats {
-            self.fold_in();
-        }
-        self.end_cycle()?;
-        self.end_cycle()
-    }
-
     /// Closes the table, if every seat was folded in.
     fn close(self, alloc: Global) -> Option<(Told, Closed)> {
         let Table {
@@ -162,7 +137,18 @@ pub(super) fn played(
     requires start { start ≤ most_start }
 {
     let mut table = Table::opening(alloc, heap, start)?;
-    table.go_on_to_the_end(start)?;
-    table.end(heap.seats)?;
+    let mut draws = Draws::from(start);
+    let turns = 1 + draws.below(8);
+    for _ in 0..MANY {
+        if table.have_left() {
+            break;
+        }
+        table.go_on(&mut draws, turns)?;
+    }
+    for _ in 0..heap.seats {
+        table.fold_in();
+    }
+    table.end_cycle()?;
+    table.end_cycle()?;
     Ok(table.close(alloc))
 }

@@ -1,9 +1,8 @@
 //! The stamps under which registers were seen: what a get brings and a copy hands on, and what leaves none.
 
-use super::{graph_of, grow};
+use crate::tests::checks::entry_of;
 use crate::tests::comparing::{holds, same};
-use heap_model::Graph;
-use std::process::Abort;
+use heap_model::{Graph, Heap};
 use std::test::Fail;
 
 /// The first seat's first set, its second and its third.
@@ -45,19 +44,19 @@ const ROWS: &[(&str, u8, u8, u32)] = &[
     ("1 poll = 7", 1, 2, THIRD),
 ];
 
-/// The register was seen under the stamp.
-fn was_seen(rt: &impl Abort, graph: &Graph, seat: u8, register: u8, stamp: u32, line: &str) {
-    let is_there = (seat as usize) < graph.seats() && register <= 15;
-    holds(rt, is_there, &line);
-    same(rt, &graph.seen(seat, register), &stamp, &line);
-}
-
 #[test]
 fn keeps_the_stamp_of_the_cell_that_was_read(rt: HostRuntime) -> Result<(), Fail> {
-    let mut graph = graph_of(rt.alloc(), 1, 0, 2)?;
+    let alloc = rt.alloc();
+    let heap = Heap::make(1, 0, 2, 32).ok_or("the limits")?;
+    let mut graph = Graph::new(alloc, heap)?;
     for &(line, seat, register, stamp) in ROWS {
-        grow(rt.alloc(), &mut graph, line)?;
-        was_seen(&rt, &graph, seat, register, stamp, line);
+        graph.apply(&entry_of(alloc, line)?)?;
+        holds(
+            &rt,
+            (seat as usize) < graph.seats() && register <= 15,
+            &line,
+        );
+        same(&rt, &graph.seen(seat, register), &stamp, &line);
     }
     Ok(())
 }
