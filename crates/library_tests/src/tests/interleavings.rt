@@ -1,8 +1,13 @@
 //! Seats and collector of one table in one thread, whose single steps come in an order that is drawn: what they tell, in the order in which it came, is judged entry by entry.
 
+ghost use Rattle.std.specs.Prelude.{◌≤◌};
+ghost use Rattle.heap_model.specs.Heap.{IsHeap};
+ghost use Rattle.script_text.specs.Made.{most_start};
+
 use super::comparing::{holds, same};
 use heap_model::{Entry, Heap, Reply};
 use judging::fault_in;
+use std::process::Abort;
 use std::test::Fail;
 use table::played;
 
@@ -48,9 +53,27 @@ impl Seen {
     }
 }
 
+/// Plays the script that is made from this start, judges what it tells, and counts what has come.
+fn plays(
+    rt: &(impl Abort + AllocGlobal),
+    heap: Heap,
+    start: u32,
+    seen: &mut Seen,
+) -> Result<(), Fail>
+    requires limits { IsHeap heap }
+    requires start { start ≤ most_start }
+{
+    let alloc = rt.alloc();
+    let (told, closed) = played(alloc, heap, start)?.ok_or("unfinished")?;
+    same(rt, &fault_in(alloc, heap, &told, &closed)?, &None, &start);
+    for entry in told.iter().flatten() {
+        seen.note(entry);
+    }
+    Ok(())
+}
+
 #[test]
 fn a_thousand_interleavings(rt: HostRuntime) -> Result<(), Fail> {
-    let alloc = rt.alloc();
     let mut seen = Seen {
         full: 0,
         spine_full: 0,
@@ -60,11 +83,7 @@ fn a_thousand_interleavings(rt: HostRuntime) -> Result<(), Fail> {
     for (seats, groups, spine, scripts) in PLAYS {
         let heap = Heap::make(groups, spine, seats, 32).ok_or("the limits")?;
         for start in 0..scripts {
-            let (told, closed) = played(alloc, heap, start)?.ok_or("unfinished")?;
-            same(&rt, &fault_in(alloc, heap, &told, &closed)?, &None, &start);
-            for entry in told.iter().flatten() {
-                seen.note(entry);
-            }
+            plays(&rt, heap, start, &mut seen)?;
         }
     }
     holds(&rt, seen.is_ample(), &"what has come");

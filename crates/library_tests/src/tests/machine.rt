@@ -6,6 +6,7 @@ mod boards;
 mod calls;
 mod collects;
 mod copying;
+mod deeds;
 mod fields;
 mod making;
 mod marking;

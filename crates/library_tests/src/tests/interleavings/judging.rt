@@ -35,17 +35,18 @@ fn accepts(graph: &mut Graph, account: &mut Account, entry: &Entry) -> Result<bo
 /// More entries than a play here has.
 const MOST_ENTRIES: u64 = 1_000_000;
 
-/// The first entry that may not stand where it came, or that something is in use at the end.
-fn fault_among(alloc: Global, heap: Heap, told: &Told) -> Result<Option<Fault>, Memory>
-    requires { IsHeap heap }
-{
-    let mut graph = Graph::new(alloc, heap)?;
-    let mut account = Account::new(alloc, heap)?;
+/// The first entry that may not stand where it came, or that something is in use at the end, by books in which nothing was counted yet.
+fn fault_by(
+    graph: &mut Graph,
+    account: &mut Account,
+    told: &Told,
+) -> Result<Option<Fault>, Memory> {
     for (position, entry) in told.iter().enumerate() {
-        let Some(entry) = entry else {
-            return Ok(Some(Fault::NotLegal(position)));
+        let legal = match entry {
+            Some(entry) => accepts(graph, account, entry)?,
+            None => false,
         };
-        if !accepts(&mut graph, &mut account, entry)? {
+        if !legal {
             return Ok(Some(Fault::NotLegal(position)));
         }
     }
@@ -53,6 +54,27 @@ fn fault_among(alloc: Global, heap: Heap, told: &Told) -> Result<Option<Fault>, 
         return Ok(Some(Fault::InUse));
     }
     Ok(None)
+}
+
+/// What is wrong with these entries in their order, by a graph in which none was counted yet, if anything is.
+fn fault_on(
+    alloc: Global,
+    heap: Heap,
+    graph: &mut Graph,
+    told: &Told,
+) -> Result<Option<Fault>, Memory>
+    requires { IsHeap heap }
+{
+    let mut account = Account::new(alloc, heap)?;
+    fault_by(graph, &mut account, told)
+}
+
+/// What is wrong with these entries in their order, if anything is.
+fn fault_among(alloc: Global, heap: Heap, told: &Told) -> Result<Option<Fault>, Memory>
+    requires { IsHeap heap }
+{
+    let mut graph = Graph::new(alloc, heap)?;
+    fault_on(alloc, heap, &mut graph, told)
 }
 
 /// Whether the party's entries are exactly these.

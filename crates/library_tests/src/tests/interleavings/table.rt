@@ -127,6 +127,28 @@ impl Table {
     }
 }
 
+/// Makes steps, in an order that is drawn from this start, until every seat has left.
+fn play(table: &mut Table, start: u32) -> Result<(), Memory> {
+    let mut draws = Draws::from(start);
+    let turns = 1 + draws.below(8);
+    for _ in 0..MANY {
+        if table.have_left() {
+            break;
+        }
+        table.go_on(&mut draws, turns)?;
+    }
+    Ok(())
+}
+
+/// Folds in the seats, and makes a last whole cycle.
+fn end(table: &mut Table, seats: u8) -> Result<(), Memory> {
+    for _ in 0..seats {
+        table.fold_in();
+    }
+    table.end_cycle()?;
+    table.end_cycle()
+}
+
 /// Plays the script that is made from this start, in an order that is drawn from it too, with a last whole cycle once every seat has left; none where it didn't come to its end.
 pub(super) fn played(
     alloc: Global,
@@ -137,18 +159,7 @@ pub(super) fn played(
     requires start { start ≤ most_start }
 {
     let mut table = Table::opening(alloc, heap, start)?;
-    let mut draws = Draws::from(start);
-    let turns = 1 + draws.below(8);
-    for _ in 0..MANY {
-        if table.have_left() {
-            break;
-        }
-        table.go_on(&mut draws, turns)?;
-    }
-    for _ in 0..heap.seats {
-        table.fold_in();
-    }
-    table.end_cycle()?;
-    table.end_cycle()?;
+    play(&mut table, start)?;
+    end(&mut table, heap.seats)?;
     Ok(table.close(alloc))
 }

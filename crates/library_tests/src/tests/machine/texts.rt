@@ -6,129 +6,197 @@ use core_machine::{
 use heap_model::Turn;
 use std::alloc::{AllocError, Global};
 
+/// A text with places for numbers, `#` for decimal digits and `%` for hexadecimal ones, and the numbers that stand there in their order; those behind the last place are 0.
+type Filled = (&'static str, [u64; 4]);
+
 /// A step and the word that it found. Bits and words stand in hexadecimal digits.
 pub(super) fn step_text(alloc: Global, step: &Step, found: u64) -> Result<String, AllocError> {
-    let step = due_text(alloc, step)?;
-    format!(in alloc; "{step} found {found:x}")
+    let mut text = due_text(alloc, step)?;
+    push_filled(alloc, &mut text, (" found %", [found, 0, 0, 0]))?;
+    Ok(text)
 }
 
 /// A step.
 pub(super) fn due_text(alloc: Global, step: &Step) -> Result<String, AllocError> {
+    filled(alloc, due_words(step))
+}
+
+/// What a turn of the collector came to.
+pub(super) fn turn_text(alloc: Global, turn: &Turn) -> Result<String, AllocError> {
+    filled(alloc, turn_words(turn))
+}
+
+fn filled(alloc: Global, words: Filled) -> Result<String, AllocError> {
+    let mut text = String::new(alloc);
+    push_filled(alloc, &mut text, words)?;
+    Ok(text)
+}
+
+/// Appends the text with its numbers.
+fn push_filled(
+    alloc: Global,
+    text: &mut String,
+    (words, numbers): Filled,
+) -> Result<(), AllocError> {
+    let mut rest = numbers.iter();
+    for letter in words.chars() {
+        match letter {
+            '#' => push_decimal(alloc, text, rest.next())?,
+            '%' => push_hexadecimal(alloc, text, rest.next())?,
+            letter => text.push(letter)?,
+        }
+    }
+    Ok(())
+}
+
+fn push_decimal(alloc: Global, text: &mut String, number: Option<&u64>) -> Result<(), AllocError> {
+    let Some(number) = number else {
+        return text.push('?');
+    };
+    let digits = format!(in alloc; "{number}")?;
+    text.push_str(&digits)
+}
+
+fn push_hexadecimal(
+    alloc: Global,
+    text: &mut String,
+    number: Option<&u64>,
+) -> Result<(), AllocError> {
+    let Some(number) = number else {
+        return text.push('?');
+    };
+    let digits = format!(in alloc; "{number:x}")?;
+    text.push_str(&digits)
+}
+
+fn due_words(step: &Step) -> Filled {
     match *step {
-        Step::PollLoad => format!(in alloc; "load the phase"),
-        Step::Making(step) => making_text(alloc, step),
-        Step::Access(step) => access_text(alloc, step),
-        Step::Spine(step) => spine_text(alloc, step),
-        Step::Handshake(step) => handshake_text(alloc, step),
-        Step::Copying(step) => copying_text(alloc, step),
-        Step::Turning(step) => turning_text(alloc, step),
+        Step::PollLoad => ("load the phase", [0, 0, 0, 0]),
+        Step::Making(step) => making_words(step),
+        Step::Access(step) => access_words(step),
+        Step::Spine(step) => spine_words(step),
+        Step::Handshake(step) => handshake_words(step),
+        Step::Copying(step) => copying_words(step),
+        Step::Turning(step) => turning_words(step),
     }
 }
 
-fn making_text(alloc: Global, step: MakingStep) -> Result<String, AllocError> {
+fn making_words(step: MakingStep) -> Filled {
     match step {
-        MakingStep::Claim { group } => format!(in alloc; "claim {group}"),
-        MakingStep::GiveBack { group, bits } => format!(in alloc; "give back {group} {bits:x}"),
+        MakingStep::Claim { group } => ("claim #", [group.into(), 0, 0, 0]),
+        MakingStep::GiveBack { group, bits } => (
+            "give back # %",
+            [group.into(), bits.into(), 0, 0],
+        ),
         MakingStep::NewbornStore {
             fragment,
             part,
             word,
-        } => format!(in alloc; "store {fragment}.{part} {word:x}"),
+        } => ("store #.# %", [fragment.into(), part.into(), word, 0]),
         MakingStep::Birth { group, bits, black } => {
-            format!(in alloc; "birth {group} {bits:x} {}", colour(black))
+            let words = if black {
+                "birth # % black"
+            } else {
+                "birth # % white"
+            };
+            (words, [group.into(), bits.into(), 0, 0])
         }
         MakingStep::LastBirth { group, bits, black } => {
-            format!(in alloc; "last birth {group} {bits:x} {}", colour(black))
+            let words = if black {
+                "last birth # % black"
+            } else {
+                "last birth # % white"
+            };
+            (words, [group.into(), bits.into(), 0, 0])
         }
     }
 }
 
-fn colour(black: bool) -> &'static str {
-    if black { "black" } else { "white" }
-}
-
-fn access_text(alloc: Global, step: AccessStep) -> Result<String, AllocError> {
+fn access_words(step: AccessStep) -> Filled {
     match step {
-        AccessStep::WalkLoad { fragment } => format!(in alloc; "walk {fragment}"),
-        AccessStep::NameLoad { head } => format!(in alloc; "name {head}"),
-        AccessStep::GetLoad { fragment, part } => format!(in alloc; "get {fragment}.{part}"),
-        AccessStep::OldLoad { fragment, part } => format!(in alloc; "old {fragment}.{part}"),
-        AccessStep::Shade { fragment } => format!(in alloc; "shade {fragment}"),
+        AccessStep::WalkLoad { fragment } => ("walk #", [fragment.into(), 0, 0, 0]),
+        AccessStep::NameLoad { head } => ("name #", [head.into(), 0, 0, 0]),
+        AccessStep::GetLoad { fragment, part } => ("get #.#", [fragment.into(), part.into(), 0, 0]),
+        AccessStep::OldLoad { fragment, part } => ("old #.#", [fragment.into(), part.into(), 0, 0]),
+        AccessStep::Shade { fragment } => ("shade #", [fragment.into(), 0, 0, 0]),
         AccessStep::Swap {
             fragment,
             part,
             word,
-        } => format!(in alloc; "swap {fragment}.{part} {word:x}"),
+        } => ("swap #.# %", [fragment.into(), part.into(), word, 0]),
         AccessStep::CompareSwap {
             old,
             new,
             fragment,
             part,
-        } => format!(in alloc; "compare {fragment}.{part} {old:x} {new:x}"),
+        } => ("compare #.# % %", [fragment.into(), part.into(), old, new]),
     }
 }
 
-fn spine_text(alloc: Global, step: SpineStep) -> Result<String, AllocError> {
+fn spine_words(step: SpineStep) -> Filled {
     match step {
-        SpineStep::BudgetAdd { words } => format!(in alloc; "grant {words}"),
-        SpineStep::BudgetTakeBack { words } => format!(in alloc; "take back {words}"),
-        SpineStep::SpotClaim { words } => format!(in alloc; "place {words}"),
+        SpineStep::BudgetAdd { words } => ("grant #", [words.into(), 0, 0, 0]),
+        SpineStep::BudgetTakeBack { words } => ("take back #", [words.into(), 0, 0, 0]),
+        SpineStep::SpotClaim { words } => ("place #", [words.into(), 0, 0, 0]),
         SpineStep::SpineStore {
             half,
             offset,
             fragment,
-        } => format!(in alloc; "list {half}.{offset} {fragment}"),
-        SpineStep::AddressLoad { sentinel } => format!(in alloc; "locate {sentinel}"),
-        SpineStep::WordLoad { half, offset } => format!(in alloc; "index {half}.{offset}"),
-    }
-}
-
-fn handshake_text(alloc: Global, step: HandshakeStep) -> Result<String, AllocError> {
-    match step {
-        HandshakeStep::AnswerStore { seat, phase } => format!(in alloc; "answer {seat} {phase}"),
-        HandshakeStep::LeaveStore { seat } => format!(in alloc; "leave {seat}"),
-    }
-}
-
-fn copying_text(alloc: Global, step: CopyingStep) -> Result<String, AllocError> {
-    match step {
-        CopyingStep::FlipStore { half } => format!(in alloc; "flip {half}"),
-        CopyingStep::CopyClaim { words } => format!(in alloc; "copy {words}"),
-        CopyingStep::CopyLoad { half, offset } => format!(in alloc; "read {half}.{offset}"),
-        CopyingStep::CopyStore { half, offset, word } => {
-            format!(in alloc; "write {half}.{offset} {word:x}")
-        }
-        CopyingStep::SwingStore { sentinel, spot } => format!(in alloc;
-            "swing {sentinel} {spot:x}"
+        } => (
+            "list #.# #",
+            [half.into(), offset.into(), fragment.into(), 0],
         ),
-        CopyingStep::BudgetReturn { words } => format!(in alloc; "return {words}"),
+        SpineStep::AddressLoad { sentinel } => ("locate #", [sentinel.into(), 0, 0, 0]),
+        SpineStep::WordLoad { half, offset } => ("index #.#", [half.into(), offset.into(), 0, 0]),
     }
 }
 
-fn turning_text(alloc: Global, step: TurningStep) -> Result<String, AllocError> {
+fn handshake_words(step: HandshakeStep) -> Filled {
     match step {
-        TurningStep::LookLoad { seat } => format!(in alloc; "look {seat}"),
-        TurningStep::AdvanceStore { phase } => format!(in alloc; "advance {phase}"),
-        TurningStep::GroupLoad { group } => format!(in alloc; "group {group}"),
-        TurningStep::ScanLoad { fragment, part } => format!(in alloc; "scan {fragment}.{part}"),
-        TurningStep::MarkShade { fragment } => format!(in alloc; "mark {fragment}"),
-        TurningStep::Blacken { fragment } => format!(in alloc; "blacken {fragment}"),
-        TurningStep::MetaLoad { fragment } => format!(in alloc; "meta {fragment}"),
-        TurningStep::Free { group, bits } => format!(in alloc; "free {group} {bits:x}"),
-        TurningStep::Clear { group } => format!(in alloc; "clear {group}"),
-        TurningStep::EndAdvance { phase, kept } => format!(in alloc; "end {phase} kept {kept}"),
+        HandshakeStep::AnswerStore { seat, phase } => ("answer # #", [seat.into(), phase, 0, 0]),
+        HandshakeStep::LeaveStore { seat } => ("leave #", [seat.into(), 0, 0, 0]),
     }
 }
 
-/// What a turn of the collector came to.
-pub(super) fn turn_text(alloc: Global, turn: &Turn) -> Result<String, AllocError> {
+fn copying_words(step: CopyingStep) -> Filled {
+    match step {
+        CopyingStep::FlipStore { half } => ("flip #", [half.into(), 0, 0, 0]),
+        CopyingStep::CopyClaim { words } => ("copy #", [words.into(), 0, 0, 0]),
+        CopyingStep::CopyLoad { half, offset } => ("read #.#", [half.into(), offset.into(), 0, 0]),
+        CopyingStep::CopyStore { half, offset, word } => {
+            ("write #.# %", [half.into(), offset.into(), word, 0])
+        }
+        CopyingStep::SwingStore { sentinel, spot } => ("swing # %", [sentinel.into(), spot, 0, 0]),
+        CopyingStep::BudgetReturn { words } => ("return #", [words.into(), 0, 0, 0]),
+    }
+}
+
+fn turning_words(step: TurningStep) -> Filled {
+    match step {
+        TurningStep::LookLoad { seat } => ("look #", [seat.into(), 0, 0, 0]),
+        TurningStep::AdvanceStore { phase } => ("advance #", [phase, 0, 0, 0]),
+        TurningStep::GroupLoad { group } => ("group #", [group.into(), 0, 0, 0]),
+        TurningStep::ScanLoad { fragment, part } => (
+            "scan #.#",
+            [fragment.into(), part.into(), 0, 0],
+        ),
+        TurningStep::MarkShade { fragment } => ("mark #", [fragment.into(), 0, 0, 0]),
+        TurningStep::Blacken { fragment } => ("blacken #", [fragment.into(), 0, 0, 0]),
+        TurningStep::MetaLoad { fragment } => ("meta #", [fragment.into(), 0, 0, 0]),
+        TurningStep::Free { group, bits } => ("free # %", [group.into(), bits.into(), 0, 0]),
+        TurningStep::Clear { group } => ("clear #", [group.into(), 0, 0, 0]),
+        TurningStep::EndAdvance { phase, kept } => ("end # kept #", [phase, kept.into(), 0, 0]),
+    }
+}
+
+fn turn_words(turn: &Turn) -> Filled {
     match *turn {
-        Turn::Stepped => format!(in alloc; "stepped"),
+        Turn::Stepped => ("stepped", [0, 0, 0, 0]),
         Turn::Waits {
             seat,
             answered,
             phase,
-        } => format!(in alloc; "waits for {seat} at {answered} of {phase}"),
-        Turn::Ended { cycle, kept } => format!(in alloc; "ended {cycle} kept {kept}"),
+        } => ("waits for # at # of #", [seat.into(), answered, phase, 0]),
+        Turn::Ended { cycle, kept } => ("ended # kept #", [cycle, kept.into(), 0, 0]),
     }
 }

@@ -1,10 +1,10 @@
 //! What is done on a machine and what is found there, as texts.
 
-use super::calls::{begin, call, due, inner, log, machine_of, seen, step, turn, word};
-use super::reading::{address_of, command_of, inner_of, number, stretch};
-use super::texts::{due_text, step_text, turn_text};
+use super::calls::{log, machine_of, word};
+use super::deeds::{decimal, done};
+use super::reading::{address_of, number, stretch};
 use crate::tests::comparing::same;
-use core_machine::{Machine, MakingStep, Step};
+use core_machine::{Address, Machine};
 use heap_model::Entry;
 use reply_text::render_entry;
 use std::alloc::Global;
@@ -36,14 +36,32 @@ pub(super) fn tries(
     let alloc = rt.alloc();
     let (groups, spine, seats) = sizes;
     let mut machine = machine_of(alloc, groups, spine, seats)?;
+    tries_on(rt, &mut machine, lines)
+}
+
+/// Does what the lines say, one after the other.
+fn tries_on(
+    rt: &(impl Abort + AllocGlobal),
+    machine: &mut Machine,
+    lines: &[&str],
+) -> Result<(), Fail> {
     for line in lines {
-        if let Some(stretch) = stretch(line) {
-            for line in stretch {
-                finds(rt, alloc, &mut machine, line)?;
-            }
-        } else {
-            finds(rt, alloc, &mut machine, line)?;
+        match stretch(line) {
+            Some(stretch) => finds_all(rt, machine, stretch)?,
+            None => finds(rt, rt.alloc(), machine, line)?,
         }
+    }
+    Ok(())
+}
+
+/// Does what the lines of a stretch say, one after the other.
+fn finds_all(
+    rt: &(impl Abort + AllocGlobal),
+    machine: &mut Machine,
+    lines: &[&str],
+) -> Result<(), Fail> {
+    for line in lines {
+        finds(rt, rt.alloc(), machine, line)?;
     }
     Ok(())
 }
@@ -63,109 +81,60 @@ fn finds(
 
 /// What comes of the deed.
 fn found(alloc: Global, machine: &mut Machine, deed: &str) -> Result<String, Fail> {
-    if deed == "free" {
-        return Ok(format!(in alloc; "{}", machine.free())?);
-    }
-    if deed == "phase" {
-        return Ok(format!(in alloc; "{}", machine.phase())?);
+    if let Some(number) = number_of(machine, deed) {
+        return Ok(decimal(alloc, number)?);
     }
     if let Some(address) = address_of(deed) {
-        let (index, word) = word(machine, address)?;
-        return Ok(format!(in alloc; "{word:x} at {index}")?);
+        return word_text(alloc, machine, address);
     }
     let (party, words) = deed.split_once(' ').ok_or("a party does something")?;
-    let party = if party == "c" {
-        machine.heap().seats
-    } else {
-        number(party)?
-    };
+    if party == "c" {
+        return told(alloc, machine, machine.heap().seats, words);
+    }
+    told(alloc, machine, number(party)?, words)
+}
+
+/// The number that the deed asks for, if it asks for one.
+fn number_of(machine: &Machine, deed: &str) -> Option<u64> {
+    match deed {
+        "free" => Some(machine.free() as u64),
+        "phase" => Some(machine.phase()),
+        _ => None,
+    }
+}
+
+/// The word at this address, and where it stands.
+fn word_text(alloc: Global, machine: &Machine, address: Address) -> Result<String, Fail> {
+    let (index, word) = word(machine, address)?;
+    Ok(format!(in alloc; "{word:x} at {index}")?)
+}
+
+/// What comes of what the party does, and the entries that it adds.
+fn told(alloc: Global, machine: &mut Machine, party: u8, words: &str) -> Result<String, Fail> {
     let before = log(machine, party)?.len();
     let mut text = done(alloc, machine, party, words)?;
-    for entry in log(machine, party)?.iter().skip(before) {
+    push_entries(alloc, &mut text, log(machine, party)?, before)?;
+    Ok(text)
+}
+
+/// Appends the entries behind so many, each behind a semicolon where it isn't the first text.
+fn push_entries(
+    alloc: Global,
+    text: &mut String,
+    entries: &[Entry],
+    before: usize,
+) -> Result<(), Fail> {
+    for entry in entries.iter().skip(before) {
         if !text.is_empty() {
             text.push_str("; ")?;
         }
-        let line = render_entry(alloc, entry)?;
-        text.push_str(str::from_utf8(&line).ok().ok_or("no text")?)?;
+        push_entry(alloc, text, entry)?;
     }
-    Ok(text)
+    Ok(())
 }
 
-/// What the party does, and what comes of it but for its entries.
-fn done(alloc: Global, machine: &mut Machine, party: u8, words: &str) -> Result<String, Fail> {
-    if words == "due" {
-        return Ok(due_text(alloc, &due(machine, party)?)?);
-    }
-    if words == "step" {
-        let (step, found) = step(machine, party)?;
-        return Ok(step_text(alloc, &step, found)?);
-    }
-    if let Some(count) = words.strip_prefix("steps ") {
-        return last_of(alloc, machine, party, number(count)?);
-    }
-    if words == "stores" {
-        return stored(alloc, machine, party);
-    }
-    if words == "turn" {
-        return Ok(turn_text(alloc, &turn(machine)?)?);
-    }
-    if words == "seen" {
-        return Ok(format!(in alloc; "{}", seen(machine, party)?)?);
-    }
-    if let Some(call) = words.strip_prefix("inner ") {
-        let call = inner_of(call).ok_or("no inner call")?;
-        return Ok(format!(in alloc; "{}", inner(machine, party, call)?)?);
-    }
-    if let Some(command) = words.strip_prefix("begin ") {
-        let command = command_of(alloc, command)?;
-        let begun = begin(machine, party, &command)?;
-        return Ok(format!(in alloc; "{begun}")?);
-    }
-    let command = command_of(alloc, words)?;
-    let said = Entry::Said {
-        seat: party,
-        command,
-        reply: call(machine, party, &command)?,
-    };
-    if log(machine, party)?.last() == Some(&said) {
-        Ok(String::new(alloc))
-    } else {
-        Err("the last entry is another".into())
-    }
-}
-
-/// The last of the next steps, and the word that it found.
-fn last_of(alloc: Global, machine: &mut Machine, party: u8, count: u8) -> Result<String, Fail> {
-    let mut text = String::new(alloc);
-    for _ in 0..count {
-        let (step, found) = step(machine, party)?;
-        text = step_text(alloc, &step, found)?;
-    }
-    Ok(text)
-}
-
-/// The fragment whose four words are stored by the next steps, and the words.
-fn stored(alloc: Global, machine: &mut Machine, party: u8) -> Result<String, Fail> {
-    let mut text = String::new(alloc);
-    for wanted in 0..4 {
-        let (step, found) = step(machine, party)?;
-        let Step::Making(
-            MakingStep::NewbornStore {
-                fragment,
-                part,
-                word,
-            },
-        ) = step
-        else {
-            return Err("no store".into());
-        };
-        if part != wanted || found != 0 {
-            return Err("another part, or not where 0 was".into());
-        }
-        if part == 0 {
-            text.push_str(&format!(in alloc; "{fragment}:")?)?;
-        }
-        text.push_str(&format!(in alloc; " {word:x}")?)?;
-    }
-    Ok(text)
+fn push_entry(alloc: Global, text: &mut String, entry: &Entry) -> Result<(), Fail> {
+    let line = render_entry(alloc, entry)?;
+    text.push_str(str::from_utf8(&line).ok().ok_or("no text")?)?;
+    Ok(())
 }
