@@ -1,88 +1,41 @@
-use Rattle.std.proofs.Common.{◌≡◌, ◌≤◌, ℕ, List, Option, Some, Err, Vec, Global, length, inl, ap, subst, sym}
-use Rattle.std.specs.Prelude.{IfSome, vec_len}
+use Rattle.std.proofs.Common.{◌≡◌, ℕ, List, Option, Some, subst}
+use Rattle.std.specs.Prelude.{IfSome}
 use Rattle.form_words.specs.declared.work.Work.{Work}
-use Rattle.form_words.specs.Works.{most_bytes, AskFor}
-use Rattle.schism_program.specs.declared.status.Status.TheVariants as statuses
-use Rattle.schism_program.specs.Outcome.{IsRead, ReadsInput}
-use Rattle.schism_program.specs.Works.{LeavesTable}
-use Rattle.schism_program.proofs.OneStatus.{made_input_suits_work, only_one_status_is_due}
+use Rattle.form_words.specs.Works.{AskFor, HasInput}
+use Rattle.form_words.proofs.AskedWork.{asked_work_is_one}
 use Rattle.schism_program.proofs.top.schism.Goals as goal
 
 asked_for : {words : List (List ℕ)} → (found : Option Work) → (work : Work) → found ≡ Some work → IfSome found (AskFor words) → AskFor words work
 asked_for found work is asked = rw is at asked
 
-short_input : (work : Work) → (input : Vec ℕ Global) → vec_len input ≤ most_bytes work → length input.items ≤ most_bytes work
-short_input work input within = subst (λ n. n ≤ most_bytes work) input.ok.0 within
+pub returns-in-Ok-Some-clause-says : goal.returns-in-Ok-Some-clause-says
+returns-in-Ok-Some-clause-says g c = c.do_work.ensures.says _ (asked_for c.in-Ok-Some.field-0 c.in-Ok-Some.work c.in-Ok-Some.field-0-is c.in-Ok-Some.ensures.some)
 
--- the work that was found is asked for, and its input was read
-reads : {words : List (List ℕ)} → {left left' : Option (List ℕ)} → (found : Option Work) → (work : Work) → (input : Vec ℕ Global) → found ≡ Some work → IfSome found (AskFor words) → IsRead work left left' input.items → vec_len input ≤ most_bytes work → ReadsInput words left left' work input.items
-reads found work input is asked all within = record { asked = asked_for found work is asked; all = all; short = short_input work input within }
+pub returns-in-Ok-Some-clause-formless : goal.returns-in-Ok-Some-clause-formless
+returns-in-Ok-Some-clause-formless g c = λ none. absurd (none (c.in-Ok-Some.work, asked_for c.in-Ok-Some.field-0 c.in-Ok-Some.work c.in-Ok-Some.field-0-is c.in-Ok-Some.ensures.some))
 
-pub returns-in-Err-TooLong-clause-says : goal.returns-in-Err-TooLong-clause-says
-returns-in-Err-TooLong-clause-says g c =
-    let long = c.in-Err-TooLong.ensures.too_long (ap Err c.in-Err-TooLong.field-0-is) in
-    record { work = c.in-Ok-Some.work; asked = asked_for c.in-Ok-Some.field-0 c.in-Ok-Some.work c.in-Ok-Some.field-0-is c.in-Ok-Some.ensures.some; reads = long.0; lost = long.1 }
+pub returns-in-Ok-Some-clause-unread : goal.returns-in-Ok-Some-clause-unread
+returns-in-Ok-Some-clause-unread g c = λ none. absurd (none (c.in-Ok-Some.work, asked_for c.in-Ok-Some.field-0 c.in-Ok-Some.work c.in-Ok-Some.field-0-is c.in-Ok-Some.ensures.some))
 
-pub returns-in-Err-Refused-clause-says : goal.returns-in-Err-Refused-clause-says
-returns-in-Err-Refused-clause-says g c = record {
-  work = c.in-Ok-Some.work;
-  input = c.in-Ok.input.items;
-  reads = reads c.in-Ok-Some.field-0 c.in-Ok-Some.work c.in-Ok.input c.in-Ok-Some.field-0-is c.in-Ok-Some.ensures.some c.in-Ok.ensures.read c.in-Ok.ensures.within;
-  fails = c.in-Err-Refused.ensures.refused c.in-Err-Refused.field-0-0 (ap Err c.in-Err-Refused.field-0-is);
-}
+pub returns-in-Ok-Some-clause-untouched : goal.returns-in-Ok-Some-clause-untouched
+returns-in-Ok-Some-clause-untouched g c = λ work asked none.
+    let its = asked_for c.in-Ok-Some.field-0 c.in-Ok-Some.work c.in-Ok-Some.field-0-is c.in-Ok-Some.ensures.some in
+    c.do_work.ensures.untouched (subst (λ (w : Work). ¬ HasInput w) (asked_work_is_one _ work c.in-Ok-Some.work asked its) none)
 
-pub returns-in-Err-NotLegal-clause-says : goal.returns-in-Err-NotLegal-clause-says
-returns-in-Err-NotLegal-clause-says g c = record {
-  work = c.in-Ok-Some.work;
-  input = c.in-Ok.input.items;
-  reads = reads c.in-Ok-Some.field-0 c.in-Ok-Some.work c.in-Ok.input c.in-Ok-Some.field-0-is c.in-Ok-Some.ensures.some c.in-Ok.ensures.read c.in-Ok.ensures.within;
-  illegal = c.in-Err-NotLegal.ensures.not_legal c.in-Err-NotLegal.line (ap Err c.in-Err-NotLegal.field-0-is);
-}
+pub returns-in-Ok-Some-clause-complete : goal.returns-in-Ok-Some-clause-complete
+returns-in-Ok-Some-clause-complete g c = λ status due calm_source calm_sink. c.do_work.ensures.complete _ status (asked_for c.in-Ok-Some.field-0 c.in-Ok-Some.work c.in-Ok-Some.field-0-is c.in-Ok-Some.ensures.some) due calm_source calm_sink
 
-pub returns-in-Ok-write_all-clause-says : goal.returns-in-Ok-write_all-clause-says
-returns-in-Ok-write_all-clause-says g c =
-    let input = c.in-Ok.input.items in
-    let text = c.in-Ok-made_work.made.text.items in
-    record {
-      all = record {
-        work = c.in-Ok-Some.work;
-        input = input;
-        text = text;
-        reads = reads c.in-Ok-Some.field-0 c.in-Ok-Some.work c.in-Ok.input c.in-Ok-Some.field-0-is c.in-Ok-Some.ensures.some c.in-Ok.ensures.read c.in-Ok.ensures.within;
-        makes = c.in-Ok-made_work.ensures.ok;
-        written = rw c.deref.ensures.value at c.in-Ok-write_all.ensures.ok;
-      };
-      leaves = subst (LeavesTable c.in-Ok-Some.work input text) (sym c.leave-in-Ok-write_all.ensures) c.in-Ok-made_work.ensures.closed;
-    }
+pub returns-in-Ok-Some-clause-most : goal.returns-in-Ok-Some-clause-most
+returns-in-Ok-Some-clause-most g c = λ form short. c.do_work.ensures.most _ (asked_for c.in-Ok-Some.field-0 c.in-Ok-Some.work c.in-Ok-Some.field-0-is c.in-Ok-Some.ensures.some) short
 
-pub returns-clause-says : goal.returns-clause-says
-returns-clause-says g c = record {
-  work = c.in-Ok-Some.work;
-  input = c.in-Ok.input.items;
-  text = c.in-Ok-made_work.made.text.items;
-  reads = reads c.in-Ok-Some.field-0 c.in-Ok-Some.work c.in-Ok.input c.in-Ok-Some.field-0-is c.in-Ok-Some.ensures.some c.in-Ok.ensures.read c.in-Ok.ensures.within;
-  makes = c.in-Ok-made_work.ensures.ok;
-  written = rw c.deref.ensures.value at c.in-Err-write_all.ensures.err;
-}
+pub returns-in-Ok-Some-clause-unwritten : goal.returns-in-Ok-Some-clause-unwritten
+returns-in-Ok-Some-clause-unwritten g c = c.do_work.ensures.unwritten
 
-pub returns-in-Err-Refused-clause-complete : goal.returns-in-Err-Refused-clause-complete
-returns-in-Err-Refused-clause-complete g c = λ status due calm_source calm_sink.
-    let work = c.in-Ok-Some.work in
-    let fault = c.in-Err-Refused.field-0-0 in
-    let fails = c.in-Err-Refused.ensures.refused fault (ap Err c.in-Err-Refused.field-0-is) in
-    inl (only_one_status_is_due _ _ _ work c.in-Ok.input.items (statuses.Refused fault.line fault.cause) status
-    (asked_for c.in-Ok-Some.field-0 work c.in-Ok-Some.field-0-is c.in-Ok-Some.ensures.some) c.in-Ok.ensures.read (short_input work c.in-Ok.input c.in-Ok.ensures.within, fails) due)
+pub returns-in-Ok-Some-clause-unclosed : goal.returns-in-Ok-Some-clause-unclosed
+returns-in-Ok-Some-clause-unclosed g c = c.do_work.ensures.unclosed
 
-pub returns-in-Err-NotLegal-clause-complete : goal.returns-in-Err-NotLegal-clause-complete
-returns-in-Err-NotLegal-clause-complete g c = λ status due calm_source calm_sink.
-    let work = c.in-Ok-Some.work in
-    let illegal = c.in-Err-NotLegal.ensures.not_legal c.in-Err-NotLegal.line (ap Err c.in-Err-NotLegal.field-0-is) in
-    inl (only_one_status_is_due _ _ _ work c.in-Ok.input.items (statuses.NotLegal c.in-Err-NotLegal.line) status
-    (asked_for c.in-Ok-Some.field-0 work c.in-Ok-Some.field-0-is c.in-Ok-Some.ensures.some) c.in-Ok.ensures.read (short_input work c.in-Ok.input c.in-Ok.ensures.within, illegal) due)
+pub returns-in-Ok-Some-clause-read_count : goal.returns-in-Ok-Some-clause-read_count
+returns-in-Ok-Some-clause-read_count g c = c.do_work.ensures.read_count
 
-pub returns-in-Ok-write_all-clause-complete : goal.returns-in-Ok-write_all-clause-complete
-returns-in-Ok-write_all-clause-complete g c = λ status due calm_source calm_sink.
-    let work = c.in-Ok-Some.work in
-    let suits = made_input_suits_work work c.in-Ok.input.items _ c.in-Ok-made_work.ensures.ok in
-    inl (only_one_status_is_due _ _ _ work c.in-Ok.input.items statuses.Done status
-    (asked_for c.in-Ok-Some.field-0 work c.in-Ok-Some.field-0-is c.in-Ok-Some.ensures.some) c.in-Ok.ensures.read (short_input work c.in-Ok.input c.in-Ok.ensures.within, suits) due)
+pub returns-in-Ok-Some-clause-write_count : goal.returns-in-Ok-Some-clause-write_count
+returns-in-Ok-Some-clause-write_count g c = c.do_work.ensures.write_count
