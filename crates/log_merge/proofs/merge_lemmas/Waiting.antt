@@ -2,6 +2,7 @@
 use Rattle.std.proofs.Common.{◌≡◌, ℕ, ◌+◌, ◌<◌, ◌≤◌, inl, inr, List, ◌∷◌, ◌++◌, fold, get_or, count_by, Some, Ok, refl, sym, ap, ◌∙◌, subst, arith, append_assoc}
 use Rattle.std.proofs.lemmas.Bool.{cases_lt}
 use Rattle.std.proofs.lemmas.List.Sums.{fold-append}
+use Rattle.std.proofs.lemmas.Option.{none-some}
 use Rattle.heap_model.specs.declared.heap.Heap.{Heap}
 use Rattle.heap_model.specs.declared.id.Id.{Id}
 use Rattle.heap_model.specs.declared.id.Value.{Value}
@@ -85,7 +86,7 @@ module _ (heap : Heap) (placed earlier : List Entry) (number : ℕ) (kind : Pend
   got_there : (x : Entry) → ((seat : ℕ) → seat_of x ≡ Some seat → seat ≡ number) → get_of held x ≡ Some kind → IsGetOf there x (Object kind.object) kind.index kind.stamp
   got_there (entries.Said seat (commands.Get d r i) (replies.Got found stamp)) its is = cell_there seat r i stamp (its seat refl) is
   got_there (entries.Said seat (commands.Cas r i a v) (replies.Now stamp)) its is = cell_there seat r i stamp (its seat refl) is
-  got_there _ its is = absurd cc
+  got_there _ its is = absurd (none-some kind is)
 
   kind_there : (seat r i stamp : ℕ) → seat ≡ number → ((register_value there seat r ≡ Object kind.object) × (i ≡ kind.index) × (stamp ≡ kind.stamp)) → kind_of (get_or held r Nil) i stamp ≡ Some kind
   kind_there seat r i stamp its is = is_of_kind (get_or held r Nil) i stamp kind (shown_register seat r its ∙ is.0, is.1, is.2)
@@ -97,7 +98,7 @@ module _ (heap : Heap) (placed earlier : List Entry) (number : ℕ) (kind : Pend
 
 seat_of_kind : (held : List Value) (x : Entry) (kind : PendingGet) → get_of held x ≡ Some kind → (seat : ℕ) × (seat_of x ≡ Some seat)
 seat_of_kind held (entries.Said seat command reply) kind is = (seat, refl)
-seat_of_kind held _ kind is = absurd cc
+seat_of_kind held _ kind is = absurd (none-some kind is)
 
 -- a get that is counted is one that the log has
 has_get : (heap : Heap) (logs : List (List Entry)) (placed rest : List Entry) (number : ℕ) (kind : PendingGet) → IsCompletion heap logs placed rest → number ≤ heap.seats
@@ -129,7 +130,7 @@ counted_get heap logs placed rest number id i stamp completion within has =
 replaced_writes : (g : Graph) (e : Entry) (kind : PendingGet) → replaced_by g e ≡ Some kind → Writes g e (Object kind.object) kind.index kind.stamp
 replaced_writes g (entries.Said seat (commands.Set r i v) (replies.Was stamp)) kind is = kind_is (register_value g seat r) i stamp kind is
 replaced_writes g (entries.Said seat (commands.Cas r i a v) (replies.Was stamp)) kind is = kind_is (register_value g seat r) i stamp kind is
-replaced_writes g _ kind is = absurd cc
+replaced_writes g _ kind is = absurd (none-some kind is)
 
 written_is_replaced : (g : Graph) (e : Entry) (kind : PendingGet) → Writes g e (Object kind.object) kind.index kind.stamp → replaced_by g e ≡ Some kind
 written_is_replaced g (entries.Said seat (commands.Set r i v) (replies.Was stamp)) kind writes = is_of_kind (register_value g seat r) i stamp kind writes
