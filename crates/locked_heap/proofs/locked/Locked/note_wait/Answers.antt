@@ -12,6 +12,7 @@ use Rattle.locked_heap.proofs.Owing.{owes_no_more_untold}
 use Rattle.locked_heap.proofs.Parting.{comes_no_further}
 use Rattle.locked_heap.proofs.locked.Locked.note_wait.Goals as goal
 
+-- the one found is the one told
 same_found : (one two : Behind) → Some one ≡ Some two → one ≡ two
 same_found one two is = cc is
 
