@@ -28,8 +28,15 @@ loop-seat-init g c number below = absurd (omega (arith, below))
 
 pub bounds-scripts-seat : goal.bounds-scripts-seat
 bounds-scripts-seat g c =
-    omega (arith, c.loop-seat-test.true, ap (λ (h : Heap). h.seats) c.heap-seat-end.ensures, ap (λ (h : Heap). h.seats) c.self.invariant.run.of_heap, c.self.invariant.run.given_right.seated,
-      ap (length {A = List Command}) c.requires.scripts, length-map c.args.scripts.now (λ (script : Vec Command Global). script.items))
+    omega (
+      arith,
+      c.loop-seat-test.true,
+      ap (λ (h : Heap). h.seats) c.heap-seat-end.ensures,
+      ap (λ (h : Heap). h.seats) c.self.invariant.run.of_heap,
+      c.self.invariant.run.given_right.seated,
+      ap (length {A = List Command}) c.requires.scripts,
+      length-map c.args.scripts.now (λ (script : Vec Command Global). script.items),
+    )
 
 pub finish_seat-requires-clause-within : goal.finish_seat-requires-clause-within
 finish_seat-requires-clause-within g c = omega (arith, c.loop-seat-test.true, ap (λ (h : Heap). h.seats) c.heap-seat-end.ensures, ap (λ (h : Heap). h.seats) c.self.invariant.run.of_heap)
@@ -37,8 +44,15 @@ finish_seat-requires-clause-within g c = omega (arith, c.loop-seat-test.true, ap
 pub finish_seat-requires-clause-script : goal.finish_seat-requires-clause-script
 finish_seat-requires-clause-script g c =
     c.as_slice.ensures.value ∙ own_script c.args.scripts.now _ c.loop-seat.seat c.index-scripts-seat.result c.requires.scripts
-    (omega (arith, c.loop-seat-test.true, ap (λ (h : Heap). h.seats) c.heap-seat-end.ensures, ap (λ (h : Heap). h.seats) c.self.invariant.run.of_heap, c.self.invariant.run.given_right.seated,
-      ap (length {A = List Command}) c.requires.scripts, length-map c.args.scripts.now (λ (script : Vec Command Global). script.items))) c.index-scripts-seat.is
+    (omega (
+      arith,
+      c.loop-seat-test.true,
+      ap (λ (h : Heap). h.seats) c.heap-seat-end.ensures,
+      ap (λ (h : Heap). h.seats) c.self.invariant.run.of_heap,
+      c.self.invariant.run.given_right.seated,
+      ap (length {A = List Command}) c.requires.scripts,
+      length-map c.args.scripts.now (λ (script : Vec Command Global). script.items),
+    )) c.index-scripts-seat.is
 
 pub returns-in_err-finish_seat : goal.returns-in_err-finish_seat
 returns-in_err-finish_seat g c = on_ok_at_err c.from_residual.result _ c.from_residual.ensures.0
