@@ -9,6 +9,7 @@ pub mod Opened
 pub mod Parting
 pub mod TurnsStand
 pub mod Owing
+pub mod Returning
 pub mod Slacking
 pub mod Calling
 pub mod InnerCalls

@@ -1,18 +1,49 @@
-use Rattle.std.proofs.Common.{◌≡◌, ◌+◌, ◌-◌, ◌^◌, min, List, [], ◌∷◌, ◌++◌, length, drop, length-append, sym, ap, subst, ◌∙◌, arith, refl}
+use Rattle.std.proofs.Common.{◌≡◌, ◌+◌, ◌-◌, ◌^◌, ◌<◌, min, List, [], ◌∷◌, ◌++◌, length, drop, length-append, sym, ap, subst, ◌∙◌, arith, refl}
 use Rattle.heap_model.specs.account.Space.{total}
 use Rattle.heap_model.specs.declared.entry.Entry.{Entry}
 use Rattle.heap_model.specs.declared.entry.Entry.TheVariants.{Said}
 use Rattle.locked_heap.specs.declared.progress.Progress.{Progress}
+use Rattle.std.proofs.lemmas.List.{get_or-set_same}
 use Rattle.std.proofs.lemmas.Option.{slice_get_within}
 use Rattle.locked_heap.specs.Given.{script_of}
 use Rattle.locked_heap.specs.Locked.{LockedValue, IsNext}
-use Rattle.locked_heap.specs.Progress.{progress_at}
+use Rattle.locked_heap.specs.Progress.{at_begin, progress_at}
 use Rattle.locked_heap.proofs.Calling.{given_script_is_right, can_begin_command, all_have_come_after_call}
 use Rattle.locked_heap.proofs.Coming.{read_progress_is_seats}
 use Rattle.locked_heap.proofs.GivenRuns.{is_run_after_call}
-use Rattle.locked_heap.proofs.Parting.{is_parted_after_progress, stands_locked_still}
+use Rattle.locked_heap.proofs.Parting.{is_parted_after_progress, stands_locked_still, comes_no_further}
 use Rattle.locked_heap.proofs.Owing.{owes_no_more_untold, owed_grows_by_claimed, on_err_always}
+use Rattle.locked_heap.proofs.Returning.{on_ok_at_err, comes_further_by_set}
 use Rattle.locked_heap.proofs.locked.Locked.call.Goals as goal
+
+pub returns-in_err-call-clause-further : goal.returns-in_err-call-clause-further
+returns-in_err-call-clause-further g c = comes_no_further _ _ c.args.seat (ap (λ (v : LockedValue). v.seats) c.self.view_is) (ap (λ (v : LockedValue). v.over) c.self.view_is)
+
+pub returns-in_err-call-clause-onward : goal.returns-in_err-call-clause-onward
+returns-in_err-call-clause-onward g c = on_ok_at_err c.from_residual.result _ c.from_residual.ensures.0
+
+pub returns-in_err-call-clause-owes : goal.returns-in_err-call-clause-owes
+returns-in_err-call-clause-owes g c = on_ok_at_err c.from_residual.result _ c.from_residual.ensures.0
+
+pub index-progress-requires : goal.index-progress-requires
+index-progress-requires g c = omega (arith, c.requires.next.within, c.self.invariant.come.seated)
+
+pub index_mut-requires : goal.index_mut-requires
+index_mut-requires g c = omega (arith, c.requires.next.within, c.self.invariant.come.seated)
+
+pub returns-clause-onward : goal.returns-clause-onward
+returns-clause-onward g c =
+    let seats = c.self.inside.seats.items in
+    let below : c.args.seat < length seats = omega (arith, c.requires.next.within, c.self.invariant.come.seated) in
+    let read = read_progress_is_seats seats c.args.seat c.index-progress.result.now below c.index-progress.ensures in
+    ap (λ (p : Progress). p.position) (get_or-set_same seats c.args.seat _ at_begin below) ∙ ap (λ (p : Progress). p.position + 1) (sym read) ∙ ap (λ (v : LockedValue). (progress_at v.seats c.args.seat).position + 1) c.self.view_is
+
+pub returns-clause-further : goal.returns-clause-further
+returns-clause-further g c =
+    let seats = c.self.inside.seats.items in
+    let below : c.args.seat < length seats = omega (arith, c.requires.next.within, c.self.invariant.come.seated) in
+    let read = read_progress_is_seats seats c.args.seat c.index-progress.result.now below c.index-progress.ensures in
+    comes_further_by_set _ _ _ c.args.seat _ c.self.view_is refl refl below (omega (arith, ap (λ (p : Progress). p.position) read)) (omega (arith, ap (λ (p : Progress). p.position) read)) (ap (λ (p : Progress). p.gone) read)
 
 pub call-requires : goal.call-requires
 call-requires g c =

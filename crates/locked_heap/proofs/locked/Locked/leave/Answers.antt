@@ -1,14 +1,31 @@
 use Rattle.std.proofs.Common.{◌≡◌, true, false, length, sym, ap, subst, arith, refl}
+use Rattle.std.proofs.lemmas.List.{get_or-set_same}
 use Rattle.locked_heap.specs.declared.progress.Progress.{Progress}
 use Rattle.locked_heap.specs.Given.{script_of}
 use Rattle.locked_heap.specs.Locked.{LockedValue}
-use Rattle.locked_heap.specs.Progress.{progress_at}
+use Rattle.locked_heap.specs.Progress.{at_begin, progress_at}
 use Rattle.locked_heap.proofs.Calling.{all_have_come_after_leave}
 use Rattle.locked_heap.proofs.Coming.{read_progress_is_seats}
 use Rattle.locked_heap.proofs.GivenRuns.{is_run_after_call}
-use Rattle.locked_heap.proofs.Parting.{is_parted_by_leave, stands_locked_still}
+use Rattle.locked_heap.proofs.Parting.{is_parted_by_leave, stands_locked_still, comes_no_further}
 use Rattle.locked_heap.proofs.Owing.{owes_no_more_untold, owes_no_more_after_leave}
+use Rattle.locked_heap.proofs.Returning.{on_ok_at_err}
 use Rattle.locked_heap.proofs.locked.Locked.leave.Goals as goal
+
+pub returns-in_err-call-clause-further : goal.returns-in_err-call-clause-further
+returns-in_err-call-clause-further g c = comes_no_further _ _ c.args.seat (ap (λ (v : LockedValue). v.seats) c.self.view_is) (ap (λ (v : LockedValue). v.over) c.self.view_is)
+
+pub returns-in_err-call-clause-left : goal.returns-in_err-call-clause-left
+returns-in_err-call-clause-left g c = on_ok_at_err c.from_residual.result _ c.from_residual.ensures.0
+
+pub index-progress-requires : goal.index-progress-requires
+index-progress-requires g c = omega (arith, c.requires.within, c.self.invariant.come.seated)
+
+pub index_mut-requires : goal.index_mut-requires
+index_mut-requires g c = omega (arith, c.requires.within, c.self.invariant.come.seated)
+
+pub returns-clause-left : goal.returns-clause-left
+returns-clause-left g c = ap (λ (p : Progress). p.gone) (get_or-set_same c.self.inside.seats.items c.args.seat _ at_begin (omega (arith, c.requires.within, c.self.invariant.come.seated)))
 
 pub invariant_of-self : goal.invariant_of-self
 invariant_of-self g c = stands_locked_still g.N.Handed.given _ c.call.new.self c.self.inside.patience c.self.invariant c.in_err-call.ensures.still
