@@ -33,7 +33,6 @@ fn add(slots: &mut Vec<Vec<Command>>, line: &JobLine) -> Result<(), Memory>
 }
 
 /// The commands of the lines, parted by the numbers of their jobs.
-#[tactic(auto, using(crate::proofs::PartedLines::slots_with_line))]
 fn slots_of(alloc: Global, lines: &[JobLine]) -> Result<Vec<Vec<Command>>, Memory>
     requires { All HasJobNumber lines.now }
     ensures { IfOk result (λ slots. AreSlots lines.now (map (λ slot. slot.items) slots.items)) }
