@@ -1,18 +1,55 @@
 -- The parts of a seat's work behind one another: it finds the queue, serves its script and leaves.
-use Rattle.std.proofs.Common.{◌≡◌, ◌≢◌, ℕ, ◌+◌, ◌<◌, inl, inr, Bool, cond, List, [], ◌∷◌, ◌++◌, length, take, Result, Ok, Err, sym, ap, ◌∙◌, subst, append_assoc, append-nil, arith}
+use Rattle.std.proofs.Common.{◌≡◌, ◌≢◌, ℕ, ◌+◌, ◌<◌, ◌≤◌, inl, inr, Bool, cond, List, [], ◌∷◌, ◌++◌, length, take, Result, Ok, Err, refl, sym, ap, ◌∙◌, subst, append_assoc, append-nil, arith}
 use Rattle.std.specs.Prelude.{slice_index_or, OnOk}
 use Rattle.std.proofs.lemmas.Bool.Decides.{eqb_tells}
 use Rattle.std.proofs.lemmas.List.{take_more}
+use Rattle.heap_model.specs.declared.command.Command.TheVariants.{Get, Poll}
 use Rattle.heap_model.specs.declared.entry.Entry.{Entry}
-use Rattle.heap_model.specs.calls.SeatState.{SeatState}
+use Rattle.heap_model.specs.declared.entry.Entry.TheVariants.{Said}
+use Rattle.heap_model.specs.declared.refusal.PlaceRefusal.{PlaceRefusal}
+use Rattle.heap_model.specs.declared.refusal.PlaceRefusal.TheVariants as refusals
+use Rattle.heap_model.specs.declared.reply.Reply.{Reply}
+use Rattle.heap_model.specs.declared.reply.Reply.TheVariants.{Phase}
+use Rattle.heap_model.specs.calls.SeatCalls.{Adds}
+use Rattle.heap_model.specs.calls.SeatReplies.{refusal_reply}
+use Rattle.heap_model.specs.calls.SeatState.{SeatState, own_graph_seat}
 use Rattle.heap_queue.specs.declared.queue_command.QueueCommand.{QueueCommand}
 use Rattle.heap_queue.specs.Calls.{Call}
 use Rattle.heap_queue.specs.Effects.{start}
+use Rattle.heap_queue.specs.Grows.{HasLeft}
 use Rattle.heap_queue.specs.Histories.{Leads}
-use Rattle.heap_queue.specs.Places.{Place, Waits, Rests}
-use Rattle.heap_queue.specs.Serving.{ServesBy, ServesScript, first_calls, begin_place, HasBegun, HasFound, HasLooked, HasCome, GoesOnBy, looked_place}
-use Rattle.heap_queue.proofs.ServingLogs.{leads_on, each_more, has_come}
-use Rattle.heap_queue.proofs.ServingSteps.{goes_both, goes_weaker}
+use Rattle.heap_queue.specs.Places.{Place, Waits, Rests, after}
+use Rattle.heap_queue.specs.Serving.{IsPolled, ServesBy, ServesScript, first_calls, begin_place, HasBegun, HasFound, HasLooked, HasCome, HasLeftFor, GoesOnBy, looked_place}
+use Rattle.heap_queue.proofs.ServingLogs.{leads_on, polled_waits, each_more, has_come}
+use Rattle.heap_queue.proofs.ServingSteps.{goes_nowhere, goes_with_room, goes_both, goes_weaker, goes_by, goes_by_poll}
+
+-- a seat that has made room for six entries may poll, and then look
+pub room_for_look : {old new : SeatState} → new ≡ record old { spare = new.spare } → HasLeftFor 0 old → 6 ≤ new.spare → HasLeft 0 0 6 new
+room_for_look {old} {new} same has room = record {
+  present = ap (λ (s : SeatState). (own_graph_seat s).left) same ∙ has.present;
+  names_left = let n = ap (λ (s : SeatState). length (own_graph_seat s).objects) same in let x = has.names in omega (arith, n, x);
+  stamps_left = let n = ap (λ (s : SeatState). (own_graph_seat s).sets) same in let x = has.stamps in omega (arith, n, x);
+  room_left = room;
+}
+
+-- it makes room, polls, and reads field 1 of the board
+pub looks : {old now polled new : SeatState} {p : ℕ} {shown : Reply} (place : Place) (reply : Reply) → now ≡ record old { spare = now.spare } → Adds now polled Poll (Phase p) → Adds polled new (Get 14 0 1) shown → shown ≡ reply
+    → after Waits (Get 14 0 1) reply ≡ place → GoesOnBy 0 (HasLooked place) old new
+looks {old} {now} {polled} {new} {p} {shown} place reply room poll get same leads =
+    let told : List Entry = Said polled.number (Get 14 0 1) shown ∷ [] in
+    let read : HasLooked place told = record { due = (refl, tt); stands = ap (after Waits (Get 14 0 1)) same ∙ leads; ended = refl } in
+    goes_both 0 (HasLooked place) (omega arith) (λ log later a b. leads_on Waits Waits place log later [] [] (polled_waits now.number log a) b)
+    (goes_polled room (goes_by_poll p poll))
+    (goes_by 0 (HasLooked place) (Get 14 0 1) get (λ e. cc) (omega arith) (omega arith) (subst (λ (l : List Entry). HasLooked place (l ++ told)) (sym get.comes) read))
+      where
+        goes_polled : now ≡ record old { spare = now.spare } → GoesOnBy 0 (IsPolled now.number) now polled → GoesOnBy 0 (IsPolled now.number) old polled
+        goes_polled room one = goes_both 0 (IsPolled now.number) (omega arith) (λ log later a b. subst (λ (l : List Entry). IsPolled now.number (l ++ later)) (sym a) b)
+            (goes_with_room (goes_nowhere (λ (l : List Entry). l ≡ []) old refl) room) one
+
+-- where there is no object or no field, it waits
+pub waits_after : (refusal : PlaceRefusal) → after Waits (Get 14 0 1) (refusal_reply refusal) ≡ Waits
+waits_after refusals.NoObject = refl
+waits_after refusals.NoField = refl
 
 -- a look more
 pub looks_more : {old now new : SeatState} (found is : Bool) → found ≡ is → GoesOnBy 0 (HasLooked Waits) old now → GoesOnBy 0 (HasLooked (looked_place found)) now new → GoesOnBy 0 (HasLooked (looked_place is)) old new
