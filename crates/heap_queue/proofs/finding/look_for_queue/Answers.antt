@@ -8,18 +8,18 @@ use Rattle.heap_model.specs.declared.reply.Reply.TheVariants.{Got}
 use Rattle.heap_model.specs.calls.SeatReplies.{get_reply, refusal_reply}
 use Rattle.heap_queue.specs.Places.{Waits, Rests}
 use Rattle.heap_queue.proofs.HeapCalls.{spends, is_ready, is_ready_then, left_less}
-use Rattle.heap_queue.proofs.ServingParts.{room_for_look, looks, waits_after}
+use Rattle.heap_queue.proofs.ServingParts.{left_with_room, looks, waits_after}
 use Rattle.heap_queue.proofs.finding.look_for_queue.Goals as goal
 
 pub returns-in_err-room : goal.returns-in_err-room
 returns-in_err-room g c = IfOk-from_err c.from_residual.result _ c.from_residual.ensures.0
 
 pub poll-requires : goal.poll-requires
-poll-requires g c = is_ready Poll (left_less 0 0 4 (room_for_look c.room.ensures.same c.requires.may c.in_ok-room.ensures.room) (omega arith) (omega arith) (omega arith)) tt
+poll-requires g c = is_ready Poll (left_less 0 0 4 (left_with_room c.room.ensures.same c.requires.may c.in_ok-room.ensures.room) (omega arith) (omega arith) (omega arith)) tt
 
 pub get-requires : goal.get-requires
 get-requires g c =
-    is_ready_then (Get 14 0 1) (room_for_look c.room.ensures.same c.requires.may c.in_ok-room.ensures.room) (spends Poll (λ e. cc) c.poll.ensures) (omega arith) (omega arith) (omega arith)
+    is_ready_then (Get 14 0 1) (left_with_room c.room.ensures.same c.requires.may c.in_ok-room.ensures.room) (spends Poll (λ e. cc) c.poll.ensures) (omega arith) (omega arith) (omega arith)
     ((omega arith, omega arith), omega arith, omega arith)
 
 pub returns-in-Ok-Object-default : goal.returns-in-Ok-Object-default
