@@ -1,7 +1,7 @@
 use Rattle.std.proofs.Common.{sym, subst, arith}
 use Rattle.heap_model.specs.declared.command.Command.TheVariants.{Num}
 use Rattle.heap_queue.specs.declared.queue_command.QueueCommand.{QueueCommand}
-use Rattle.heap_queue.specs.Calls.{Call, put_call, take_call}
+use Rattle.heap_queue.specs.Calls.{put_call, take_call}
 use Rattle.heap_queue.specs.Serving.{put_register, take_register, IsQueueCommand, AnswersBy, GoesOnBy}
 use Rattle.heap_queue.proofs.HeapCalls.{spends, spends_both, is_ready, left_then, left_less}
 use Rattle.heap_queue.proofs.ServingParts.{answers_put, answers_take}
