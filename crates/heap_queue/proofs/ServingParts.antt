@@ -92,19 +92,19 @@ answers_put {old} {now} {new} n reply set called spent =
     goes_both 1 (AnswersBy old.number (Put n) call) (omega arith) (λ one more a b. record { asked = is_put n reply; calling = more; whole = b; log_is = ap (λ (l : List Entry). l ++ more) a })
     (goes_by 0 (λ (l : List Entry). l ≡ sets_number old.number (Put n)) (Num put_register n) set (λ e. cc) (omega arith) (omega arith) (ap (λ (l : List Entry). l ++ sets_number old.number (Put n)) set.comes))
     (goes_whole (λ (l : List Entry). IsWhole Rests l call) called.added called.told spent called.whole)
-      where
-        is_put : (n : ℕ) (reply : PutReply) → IsCallOf (Put n) (put_call put_register reply)
-        is_put n (puts.Full need found) = tt
-        is_put n reply = refl
+  where
+    is_put : (n : ℕ) (reply : PutReply) → IsCallOf (Put n) (put_call put_register reply)
+    is_put n (puts.Full need found) = tt
+    is_put n reply = refl
 
 pub answers_take : {old new : SeatState} (reply : TakeReply) → Completes Rests old new (take_call take_register reply) → Spends 0 1 14 old new → GoesOnBy 1 (AnswersBy old.number Take (take_call take_register reply)) old new
 answers_take {old} {new} reply called spent =
     goes_whole (AnswersBy old.number Take (take_call take_register reply)) called.added called.told (spends_most 1 3 14 spent (omega arith) (omega arith) (omega arith))
     (record { asked = is_take reply; calling = called.added; whole = called.whole; log_is = refl })
-      where
-        is_take : (reply : TakeReply) → IsCallOf Take (take_call take_register reply)
-        is_take takes.Took = refl
-        is_take reply = tt
+  where
+    is_take : (reply : TakeReply) → IsCallOf Take (take_call take_register reply)
+    is_take takes.Took = refl
+    is_take reply = tt
 
 -- once there is room the command is answered, and then a poll
 pub serves : {old now answered new : SeatState} {p : ℕ} (command : QueueCommand) (call : Call) → now ≡ record old { spare = now.spare } → GoesOnBy 1 (AnswersBy now.number command call) now answered → Adds answered new Poll (Phase p)
