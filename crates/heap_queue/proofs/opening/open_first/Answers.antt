@@ -1,4 +1,4 @@
-use Rattle.std.proofs.Common.{ap, ◌∙◌}
+use Rattle.std.proofs.Common.{◌≡◌, ap, ◌∙◌}
 use Rattle.heap_model.specs.calls.SeatState.{SeatState, own_graph_seat}
 use Rattle.mutator_seat.specs.Resting.{seat_state}
 use Rattle.heap_queue.proofs.FirstSeat.{has_made, was_refused}
@@ -6,12 +6,16 @@ use Rattle.heap_queue.proofs.opening.open_first.Goals as goal
 
 pub returns-in-Ok : goal.returns-in-Ok
 returns-in-Ok g c =
-    let same = c.room.ensures.same in
-    has_made (seat_state c.room.new.self) c.make_queue.new.seat (ap (λ (s : SeatState). s.number) same ∙ c.requires.number) (ap (λ (s : SeatState). (own_graph_seat s).left) same ∙ c.requires.present)
-    (ap (λ (s : SeatState). s.mine) same ∙ c.requires.silent) c.in-Ok.ensures.spends c.in-Ok.ensures.called c.in-Ok.ensures.at_once
+    let now = seat_state c.room.new.self in
+    let roomy : SeatState = record (seat_state c.args.first.now) { spare = now.spare } in
+    let same : now ≡ roomy = c.room.ensures.same in
+    has_made now c.make_queue.new.seat (ap (λ (s : SeatState). s.number) {y = roomy} same ∙ c.requires.number) (ap (λ (s : SeatState). (own_graph_seat s).left) {y = roomy} same ∙ c.requires.present)
+    (ap (λ (s : SeatState). s.mine) {y = roomy} same ∙ c.requires.silent) c.in-Ok.ensures.spends c.in-Ok.ensures.called c.in-Ok.ensures.at_once
 
 pub returns-in-Err : goal.returns-in-Err
 returns-in-Err g c =
-    let same = c.room.ensures.same in
-    was_refused (seat_state c.room.new.self) c.make_queue.new.seat (ap (λ (s : SeatState). s.number) same ∙ c.requires.number) (ap (λ (s : SeatState). (own_graph_seat s).left) same ∙ c.requires.present)
-    (ap (λ (s : SeatState). s.mine) same ∙ c.requires.silent) c.in-Err.ensures.spends c.in-Err.full c.in-Err.ensures.called c.in-Err.ensures.full
+    let now = seat_state c.room.new.self in
+    let roomy : SeatState = record (seat_state c.args.first.now) { spare = now.spare } in
+    let same : now ≡ roomy = c.room.ensures.same in
+    was_refused now c.make_queue.new.seat (ap (λ (s : SeatState). s.number) {y = roomy} same ∙ c.requires.number) (ap (λ (s : SeatState). (own_graph_seat s).left) {y = roomy} same ∙ c.requires.present)
+    (ap (λ (s : SeatState). s.mine) {y = roomy} same ∙ c.requires.silent) c.in-Err.ensures.spends c.in-Err.full c.in-Err.ensures.called c.in-Err.ensures.full

@@ -1,4 +1,5 @@
 use Rattle.std.proofs.Common.{List, Vec, Global, map, ap, arith}
+use Rattle.std.proofs.lemmas.Result.{IfOk-from_err}
 use Rattle.heap_model.specs.declared.heap.Heap.{Heap}
 use Rattle.heap_queue.specs.declared.queue_command.QueueCommand.{QueueCommand}
 use Rattle.heap_queue.proofs.OpenedSeats.{still_numbered, still_of_table, still_present, refused_there, ready_there}
@@ -33,3 +34,15 @@ serve_all-requires-clause-ready g c κs within =
 pub returns-clause-room : goal.returns-clause-room
 returns-clause-room g c =
     ran_has_room _ c.args.collector c.in_ok-ran.ran (omega (arith, c.heap.ensures.limits.some_seat, ap (λ (h : Heap). h.seats) c.heap.ensures.heap)) c.in_ok-ran.ensures
+
+pub returns-in_err-refused-clause-ran : goal.returns-in_err-refused-clause-ran
+returns-in_err-refused-clause-ran g c = IfOk-from_err c.from_residual.result _ c.from_residual.ensures.0
+
+pub returns-in_err-refused-clause-room : goal.returns-in_err-refused-clause-room
+returns-in_err-refused-clause-room g c = IfOk-from_err c.from_residual.result _ c.from_residual.ensures.0
+
+pub returns-in_err-ran-clause-ran : goal.returns-in_err-ran-clause-ran
+returns-in_err-ran-clause-ran g c = IfOk-from_err c.from_residual-in_err-ran.result _ c.from_residual-in_err-ran.ensures.0
+
+pub returns-in_err-ran-clause-room : goal.returns-in_err-ran-clause-room
+returns-in_err-ran-clause-room g c = IfOk-from_err c.from_residual-in_err-ran.result _ c.from_residual-in_err-ran.ensures.0

@@ -1,6 +1,7 @@
 use Rattle.std.proofs.Common.{◌≡◌, List, Vec, Global, Result, map, sym, subst, ◌∙◌}
 use Rattle.std.specs.Prelude.{IfOk, slice_index_or}
 use Rattle.std.proofs.lemmas.Option.{slice_get_within, get_or_from_slice_get}
+use Rattle.std.proofs.lemmas.Result.{IfOk-from_err}
 use Rattle.heap_model.specs.declared.fault.Memory.{Memory}
 use Rattle.heap_table.specs.SeatHeld.{SeatHeld}
 use Rattle.heap_runs.proofs.WorkersEnd.{if_ok_implied}
@@ -9,6 +10,9 @@ use Rattle.heap_queue.specs.Running.{script_at}
 use Rattle.heap_queue.specs.Working.{HasWorked, HaveEnded, HaveWorked}
 use Rattle.heap_queue.proofs.ServedSeats.{all_have_worked}
 use Rattle.heap_queue.proofs.workers.serve_seats.Goals as goal
+
+pub returns-in_err-done : goal.returns-in_err-done
+returns-in_err-done g c = IfOk-from_err c.from_residual.result _ c.from_residual.ensures.0
 
 pub returns : goal.returns
 returns g c =
