@@ -32,8 +32,8 @@ loop-line-preserved c =
     let line : JobLine = slice_index_or lines index none in
     let slots = map (λ slot. slot.items) c.loop-line.slots.items in
     subst (λ slots. AreSlots (take (index + 1) lines) slots) (sym c.in_ok-add.ensures)
-        (subst (λ done. AreSlots done (with_line slots line)) (sym (take_more lines index none c.loop-line-test.true))
-        (slots_with_line (take index lines) line slots (c.requires index none c.loop-line-test.true) c.loop-line.invariant))
+    (subst (λ done. AreSlots done (with_line slots line)) (sym (take_more lines index none c.loop-line-test.true))
+    (slots_with_line (take index lines) line slots (c.requires index none c.loop-line-test.true) c.loop-line.invariant))
 
 pub returns : goal.returns
 returns c = subst (λ lines. AreSlots lines (map (λ slot. slot.items) c.loop-line.slots.items)) (take_all c.loop-line.line-index c.args.lines.now c.loop-line-test.false) c.loop-line.invariant

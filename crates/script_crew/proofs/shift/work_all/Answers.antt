@@ -43,4 +43,4 @@ returns g c =
     let gives = (c.in_ok-both.ensures.each 1 done few).1 in
     let task : gives.job ≡ Jobs workers = sym (gives.job_is gives.job) ∙ ap (λ (ts : List Task). get_or ts 1 gives.job) tasks in
     subst (λ one. IfOk one (λ ends. HaveEnded queue jobs table heap workers.len ends.items)) (last_of_two both c.pop.new.self.items done c.in-Some.ensures.items two)
-        (subst (λ (one : Task). IfOk (get_or both 1 done) (λ ends. EndsTask queue jobs table heap one ends.items)) task gives.call.met)
+    (subst (λ (one : Task). IfOk (get_or both 1 done) (λ ends. EndsTask queue jobs table heap one ends.items)) task gives.call.met)
