@@ -2,3 +2,4 @@
 pub mod BoardLemmas
 pub mod SeatCallLemmas
 pub mod SeatGrowth
+pub mod TurnLogs

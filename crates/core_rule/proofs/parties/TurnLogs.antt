@@ -4,18 +4,10 @@ use Rattle.std.proofs.Math.Seq.{drop-append_seam}
 use Rattle.std.proofs.lemmas.List.Elements.{filter-append}
 use Rattle.core_rule.proofs.Terms.{Entry, Ends, phase, State, Turns, Can, state_after, entries, MachineValue, log_of, StandsFor, EachEventKeeps, EachTurnComesTo}
 use Rattle.heap_model.specs.account.Noting.{is_collectors}
-use Rattle.heap_model.specs.declared.calls.collector_calls.Turn.{Turn}
-use Rattle.heap_model.specs.declared.calls.collector_calls.Turn.TheVariants as turns
-use Rattle.heap_model.specs.calls.CollectorCalls.{CollectorState, ComesTo}
+use Rattle.heap_model.specs.calls.CollectorCalls.{CollectorState}
+use Rattle.heap_model.proofs.call_lemmas.TurnLogs.{few_added}
 use Rattle.core_rule.proofs.parties.Collectors.{all_are_collectors}
 use Rattle.core_rule.proofs.parties.Logs.{last_log_is_collectors}
-
--- a turn adds one entry at most
-few_added : (old new : CollectorState) (turn : Turn) → ComesTo old new turn → length new.log ≤ length old.log + 1
-few_added old new turns.Stepped (inl none) = omega (arith, ap (length {A = Entry}) none.0)
-few_added old new turns.Stepped (inr steps) = omega (arith, ap (length {A = Entry}) steps.2, length-append old.log (steps.0 ∷ []))
-few_added old new (turns.Waits number answer p) comes = omega (arith, ap (length {A = Entry}) comes.0.0)
-few_added old new (turns.Ended cycle kept) comes = omega (arith, ap (length {A = Entry}) comes.0, length-append old.log (Ends cycle kept ∷ []))
 
 -- the log has the turn's entries more, and these are one at most
 pub record TurnFacts (one two : MachineValue) (party : ℕ) : Type 0 where
