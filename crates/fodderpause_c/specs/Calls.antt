@@ -1,5 +1,5 @@
 -- A whole call of a seat, or why it isn't made.
-use Rattle.std.specs.Prelude.{◌≡◌, ℕ, ◌+◌, ◌*◌, ◌<◌, ◌≤◌, true, false, length, Result, Ok, Err}
+use Rattle.std.specs.Prelude.{◌≡◌, ◌+◌, ◌*◌, ◌<◌, ◌≤◌, true, false, length, Result, Ok, Err}
 use Rattle.heap_model.specs.Command.{IsCommand}
 use Rattle.heap_model.specs.Limits.{name_limit, stamp_limit}
 use Rattle.heap_model.specs.Needs.{need_of}

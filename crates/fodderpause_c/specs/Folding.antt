@@ -1,7 +1,6 @@
 -- A seat is folded in, as C has it.
 use Rattle.std.specs.Prelude.{◌≡◌, ℕ, true, false, Option, Some, None, Result, Ok, Err}
 use Rattle.heap_model.specs.calls.SeatState.{own_graph_seat}
-use Rattle.heap_table.specs.CollectorHeld.{CollectorHeld}
 use Rattle.heap_table.specs.Handing.{with_folded}
 use Rattle.heap_table.specs.SeatHeld.{SeatHeld}
 use Rattle.mutator_seat.specs.Resting.{seat_state}

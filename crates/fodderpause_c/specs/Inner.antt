@@ -1,5 +1,5 @@
 -- The inner calls of a collect, and how much is left to a seat.
-use Rattle.std.specs.Prelude.{◌≡◌, ℕ, ◌+◌, ◌-◌, ◌<◌, ◌≤◌, ◌⊎◌, true, false, length, Option, Result, Ok, Err}
+use Rattle.std.specs.Prelude.{◌≡◌, ℕ, ◌+◌, ◌-◌, ◌<◌, ◌⊎◌, true, false, length, Option, Result, Ok, Err}
 use Rattle.heap_model.specs.Limits.{name_limit, stamp_limit}
 use Rattle.heap_model.specs.calls.SeatState.{own_graph_seat}
 use Rattle.heap_model.specs.declared.calls.collect.CollectReply.{CollectReply}

@@ -2,7 +2,7 @@
 use Rattle.std.proofs.Common.{◌≡◌, ℕ, true, false, List, [], ◌∷◌, Option, Some, None, refl, sym, ap, ap₂, ◌∙◌, subst, codes}
 use Rattle.std.specs.List.{fold}
 use Rattle.clap.specs.Walk.{Held, Row, Rule, Text, Walk, idle, arg_by_long, finished, nothing_held, plain_word, settled, walk, walk_from, walked, word_met}
-use Rattle.clap.specs.Simple.{App, built, filled, matches_of, with_index}
+use Rattle.clap.specs.Simple.{filled, matches_of, with_index}
 use Rattle.clap.specs.Kinds.{Kinds, or_else}
 use Rattle.clap.specs.Faults.{check_fault, defaults_fault, fault_of, settle_fault, turn_fault, walk_fault, word_fault}
 use Rattle.form_words.specs.Commands.{make_app, number_rule}

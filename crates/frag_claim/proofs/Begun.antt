@@ -1,21 +1,13 @@
 -- For the crates above: right after its begin, or its budget step, a call stands where gathering or giving back begins.
-use Rattle.std.proofs.Common.{◌≡◌, ℕ, ◌+◌, ◌≤◌, suc, List, refl, sym, ap, subst, ◌∙◌, inl, inr, append-nil, arith}
+use Rattle.std.proofs.Common.{◌≡◌, ℕ, refl, sym, subst}
 use Rattle.heap_model.specs.Needs.{need_of}
-use Rattle.heap_model.specs.declared.command.Command.TheVariants.{New, Leave}
-use Rattle.heap_model.specs.declared.entry.Entry.{Entry}
-use Rattle.heap_model.specs.declared.heap.Heap.{Heap}
-use Rattle.core_machine.specs.Moves.{move_at, seat_after_due}
-use Rattle.core_machine.specs.declared.point.Making.TheVariants.{Granting}
-use Rattle.core_machine.specs.declared.point.Point.{Point}
+use Rattle.heap_model.specs.declared.command.Command.TheVariants.{New}
 use Rattle.core_machine.specs.declared.point.Point.TheVariants as points
 use Rattle.core_machine.specs.machine.Machine.{MayBegin, after_begin}
 use Rattle.core_machine.specs.seat.Fits.{FitsPoint}
-use Rattle.core_machine.specs.seat.Making.{gather_next, after_budget}
-use Rattle.core_machine.specs.seat.Seat.{spine_need, with_entries}
 use Rattle.heap_table.specs.Made.{IsSound}
-use Rattle.heap_table.specs.SeatHeld.{SeatHeld, IsStepped}
-use Rattle.core_machine.proofs.seat_lemmas.Fitting.{array_makes_object, budget_cases}
-use Rattle.frag_claim.specs.Begins.{BeginsGathering, BeginsEmptying}
+use Rattle.heap_table.specs.SeatHeld.{SeatHeld}
+use Rattle.frag_claim.specs.Begins.{BeginsGathering}
 
 -- a new record gathers from its begin on
 pub new_begins_gathering : (old new : SeatHeld) (d fields : ℕ) → IsSound old → MayBegin old.seat (New d fields) → new ≡ record old { seat = after_begin old.heap old.seat (New d fields) }

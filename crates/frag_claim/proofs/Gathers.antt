@@ -11,7 +11,6 @@ use Rattle.core_machine.specs.calls.OwnStage.{StageAt, OwnStage}
 use Rattle.core_machine.specs.declared.point.Making.TheVariants.{Refusing, Placing, Storing}
 use Rattle.core_machine.specs.declared.point.Point.{Point}
 use Rattle.core_machine.specs.declared.point.Point.TheVariants as points
-use Rattle.core_machine.specs.declared.step.MakingStep.TheVariants.{Claim}
 use Rattle.core_machine.specs.declared.step.Step.{Step}
 use Rattle.core_machine.specs.declared.step.Step.TheVariants.{Making}
 use Rattle.core_machine.specs.seat.Commands.{IsArrayCall}
@@ -24,7 +23,7 @@ use Rattle.core_machine.proofs.own_stages.Claiming.{gathers_without_claim}
 use Rattle.core_machine.proofs.own_stages.Gather.{going_on_keeps_command, stage_stands_going_on}
 use Rattle.core_machine.proofs.seat_lemmas.Fitting.{object_need_within_limits}
 use Rattle.core_machine.proofs.table_lemmas.Free.{claimed_group_has_none_clear}
-use Rattle.heap_table.specs.Made.{Made, FoundIn, MakesSteps, IsSound}
+use Rattle.heap_table.specs.Made.{Made, MakesSteps, IsSound}
 use Rattle.heap_table.specs.SeatHeld.{SeatHeld}
 use Rattle.heap_table.proofs.MadeSteps.{stage_stands_along_steps, TellsHere, found_in_made_steps}
 use Rattle.frag_claim.specs.Begins.{BeginsGathering}

@@ -1,9 +1,8 @@
 -- What the calls on fields, lengths and comparisons tell of what is the seat's own, as the trait says it.
-use Rattle.std.proofs.Common.{◌≡◌, ◌≢◌, ℕ, ◌<◌, ◌≤◌, Bool, true, false, Option, Some, None, Result, Ok, Err, length, refl, sym, ap, subst, ◌∙◌, inl, inr, arith}
+use Rattle.std.proofs.Common.{◌≡◌, ◌≢◌, ℕ, ◌≤◌, Bool, true, false, Option, Some, None, Result, Ok, Err, length, refl, sym, ap, subst, ◌∙◌, inl, inr}
 use Rattle.std.specs.Prelude.{◌↔◌, IfOk, IfSome, IsTrue, IsErr}
 use Rattle.heap_model.specs.calls.SeatReplies.{get_reply, set_reply, cas_reply, same_reply, len_reply}
-use Rattle.heap_model.specs.calls.SeatState.{held_value, IsNoObject, HoldsNoObject, own_object}
-use Rattle.heap_model.specs.declared.command.Command.{Command}
+use Rattle.heap_model.specs.calls.SeatState.{held_value, HoldsNoObject, own_object}
 use Rattle.heap_model.specs.declared.command.Command.TheVariants as commands
 use Rattle.heap_model.specs.declared.id.Value.{Value}
 use Rattle.heap_model.specs.declared.id.Value.TheVariants as values
@@ -14,30 +13,18 @@ use Rattle.heap_model.specs.declared.reply.Reply.{Reply}
 use Rattle.heap_model.specs.declared.reply.Reply.TheVariants as replies
 use Rattle.heap_model.specs.declared.reply.Swapped.{Swapped}
 use Rattle.heap_model.specs.declared.reply.Swapped.TheVariants as swaps
-use Rattle.heap_model.specs.graph.Graph.{Node, Graph}
-use Rattle.heap_model.specs.graph.Objects.{target_node}
-use Rattle.core_machine.specs.calls.Kept.{Kept, kept_of}
-use Rattle.core_machine.specs.calls.Reaching.{HasOpened, ReachesField}
-use Rattle.core_machine.specs.calls.Replies.{StandsOn}
-use Rattle.core_machine.specs.declared.point.Point.{Point}
+use Rattle.heap_model.specs.graph.Graph.{Node}
+use Rattle.core_machine.specs.calls.Kept.{kept_of}
+use Rattle.core_machine.specs.calls.Reaching.{HasOpened}
 use Rattle.core_machine.specs.declared.point.Point.TheVariants as points
-use Rattle.core_machine.specs.declared.seat.register.Register.{Register}
 use Rattle.core_machine.specs.declared.seat.register.Register.TheVariants as registers
-use Rattle.core_machine.specs.declared.step.Step.{Step}
-use Rattle.core_machine.specs.seat.Commands.{object_of, field_of, target_of}
-use Rattle.core_machine.specs.seat.FitsAccess.{NamesObject, NamesField}
 use Rattle.core_machine.specs.seat.Local.{answer_of}
-use Rattle.core_machine.specs.seat.Registers.{register_in, register_head, value_of, is_same_value}
-use Rattle.core_machine.proofs.own_stages.Objects.{held_head, reply_is_no_object, no_object_is_held}
-use Rattle.core_rule.specs.told.Found.{IsMetaOf}
-use Rattle.core_rule.specs.graph.Registers.{IsAwaited}
+use Rattle.core_machine.specs.seat.Registers.{register_in, value_of, is_same_value}
 use Rattle.core_rule.proofs.graph.SameValues.{same_value_test_tells}
 use Rattle.heap_table.specs.SeatHeld.{SeatHeld}
 use Rattle.mutator_seat.specs.Calls.{ToldIn, MakesCall}
-use Rattle.mutator_seat.specs.Replies.{AnswersGet, AnswersSet, IsReplyTo}
-use Rattle.mutator_seat.specs.Resting.{seat_state, Rests}
+use Rattle.mutator_seat.specs.Resting.{seat_state}
 use Rattle.mutator_seat.specs.Swaps.{FindsBySwap}
-use Rattle.mutator_seat.proofs.Replied.{reply_is_to_command}
 use Rattle.mutator_seat.proofs.Refusals.{register_told, refused_without, none_of_own, IsOwnMeta, meta_of_own, refused_past}
 
 -- a refusal is told by its reply

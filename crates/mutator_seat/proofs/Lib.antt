@@ -4,7 +4,6 @@ pub mod Entries
 pub mod Fields
 pub mod Inner
 pub mod KeptOn
-pub mod Opened
 pub mod Refusals
 pub mod Replied
 pub mod Running

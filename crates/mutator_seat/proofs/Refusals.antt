@@ -1,14 +1,12 @@
 -- When a call on an object is refused: for want of the object, and of the field.
-use Rattle.std.proofs.Common.{◌≡◌, ◌≢◌, ℕ, ◌<◌, ◌≤◌, Bool, true, false, Option, Some, None, Result, Ok, Err, length, refl, sym, ap, subst, ◌∙◌, inl, inr, arith}
-use Rattle.std.specs.Prelude.{◌↔◌, IfSome, IsTrue, IsErr}
-use Rattle.heap_model.specs.calls.SeatReplies.{get_reply, set_reply, same_reply, len_reply}
+use Rattle.std.proofs.Common.{◌≡◌, ℕ, ◌<◌, ◌≤◌, Option, Some, None, length, refl, sym, subst, inl, inr, arith}
+use Rattle.std.specs.Prelude.{◌↔◌, IfSome}
 use Rattle.heap_model.specs.calls.SeatState.{held_value, IsNoObject, HoldsNoObject, own_object}
 use Rattle.heap_model.specs.declared.command.Command.{Command}
 use Rattle.heap_model.specs.declared.command.Command.TheVariants as commands
 use Rattle.heap_model.specs.declared.id.Value.{Value}
 use Rattle.heap_model.specs.declared.id.Value.TheVariants as values
 use Rattle.heap_model.specs.declared.refusal.NoObject.{NoObject}
-use Rattle.heap_model.specs.declared.refusal.PlaceRefusal.{PlaceRefusal}
 use Rattle.heap_model.specs.declared.refusal.PlaceRefusal.TheVariants as refusals
 use Rattle.heap_model.specs.declared.reply.Reply.{Reply}
 use Rattle.heap_model.specs.declared.reply.Reply.TheVariants as replies
@@ -24,12 +22,10 @@ use Rattle.core_machine.specs.declared.seat.register.Register.TheVariants as reg
 use Rattle.core_machine.specs.declared.step.Step.{Step}
 use Rattle.core_machine.specs.seat.Commands.{object_of, field_of, target_of}
 use Rattle.core_machine.specs.seat.FitsAccess.{NamesObject, NamesField}
-use Rattle.core_machine.specs.seat.Local.{answer_of}
-use Rattle.core_machine.specs.seat.Registers.{register_in, register_head, value_of, is_same_value}
+use Rattle.core_machine.specs.seat.Registers.{register_in, register_head, value_of}
 use Rattle.core_machine.proofs.own_stages.Objects.{held_head, reply_is_no_object, no_object_is_held}
 use Rattle.core_rule.specs.told.Found.{IsMetaOf}
 use Rattle.core_rule.specs.graph.Registers.{IsAwaited}
-use Rattle.core_rule.proofs.graph.SameValues.{same_value_test_tells}
 use Rattle.heap_table.specs.SeatHeld.{SeatHeld}
 use Rattle.mutator_seat.specs.Calls.{ToldIn, MakesCall}
 use Rattle.mutator_seat.specs.Replies.{AnswersGet, AnswersSet, IsReplyTo, AnswersCas}

@@ -1,8 +1,8 @@
 -- What the collector's log has more after a turn.
-use Rattle.std.proofs.Common.{◌≡◌, ℕ, ◌+◌, ◌≤◌, List, [], ◌∷◌, ◌++◌, length, drop, filter, None, inl, inr, refl, sym, ap, ◌∙◌, length-append, arith}
+use Rattle.std.proofs.Common.{◌≡◌, ℕ, ◌+◌, ◌≤◌, List, [], ◌++◌, length, drop, filter, None, refl, sym, ap, ◌∙◌, length-append, arith}
 use Rattle.std.proofs.Math.Seq.{drop-append_seam}
 use Rattle.std.proofs.lemmas.List.Elements.{filter-append}
-use Rattle.core_rule.proofs.Terms.{Entry, Ends, phase, State, Turns, Can, state_after, entries, MachineValue, log_of, StandsFor, EachEventKeeps, EachTurnComesTo}
+use Rattle.core_rule.proofs.Terms.{Entry, phase, State, Turns, Can, state_after, entries, MachineValue, log_of, StandsFor, EachEventKeeps, EachTurnComesTo}
 use Rattle.heap_model.specs.account.Noting.{is_collectors}
 use Rattle.heap_model.specs.calls.CollectorCalls.{CollectorState}
 use Rattle.heap_model.proofs.call_lemmas.TurnLogs.{few_added}
