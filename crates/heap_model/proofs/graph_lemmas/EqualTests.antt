@@ -1,5 +1,5 @@
 -- What a test of equality decides there where a reply is judged.
-use Rattle.std.proofs.Common.{◌≡◌, Bool, true, false, ◌&&◌, ℕ, refl, ap, sym, ◌∙◌, subst}
+use Rattle.std.proofs.Common.{◌≡◌, Bool, true, false, ℕ, refl, ap, sym, ◌∙◌, subst}
 use Rattle.std.specs.Bool.{Decides}
 use Rattle.std.specs.Prelude.{Option, Some, None, Err, slice_get}
 use Rattle.std.proofs.lemmas.Bool.{false≢true}
@@ -56,6 +56,10 @@ is_was : (x : Reply) (s : ℕ) → of_replies.eq-value.it x (replies.Was s) ≡ 
 is_was (replies.Was t) s e = ap replies.Was ((Decides-eqb t s).0 e)
 is_was _ s e = absurd (false≢true e)
 
+is_done : (x : Reply) → of_replies.eq-value.it x replies.Done ≡ true → x ≡ replies.Done
+is_done replies.Done e = refl
+is_done _ e = absurd (false≢true e)
+
 is_no_object : (x : Reply) → of_replies.eq-value.it x replies.NoObject ≡ true → x ≡ replies.NoObject
 is_no_object replies.NoObject e = refl
 is_no_object _ e = absurd (false≢true e)
@@ -71,6 +75,10 @@ got_decided cell reply r e = Decides-at r _ e (is_got reply cell.value cell.stam
 -- the test of a reply against what a set tells of a cell
 pub was_decided : (stamp : ℕ) (reply : Reply) (r : Bool) → r ≡ of_replies.eq-value.it reply (replies.Was stamp) → Decides r (reply ≡ replies.Was stamp)
 was_decided stamp reply r e = Decides-at r _ e (is_was reply stamp, same_test reply _)
+
+-- the test of a reply against `Done`
+pub done_decided : (reply : Reply) (r : Bool) → r ≡ of_replies.eq-value.it reply replies.Done → Decides r (reply ≡ replies.Done)
+done_decided reply r e = Decides-at r _ e (is_done reply, same_test reply _)
 
 is_refusal : (found : Option Node) (i : ℕ) (reply refusal : Reply) → cell_or_refusal found i ≡ Err refusal → of_replies.eq-value.it reply refusal ≡ true → reply ≡ refusal
 is_refusal None i reply refusal e t =

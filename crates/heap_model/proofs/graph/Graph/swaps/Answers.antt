@@ -20,12 +20,12 @@ returns-else-stamp-cell c =
     rw (sym c.cell.ensures ∙ found.is-0, found.is-1, ← c.register-seen.ensures)
     (elim c.if-eq.branch [
       | then-eq w ↦ (
-          λ t. elim c.if-stamp-cell.either [
-            | inl d ↦ absurd (d.1 (stamps.0 (sym w.t-19-is ∙ t)))
-            | inr f ↦ absurd (true≢false (sym w.if-eq.true ∙ f))
-          ],
-          λ told. w.t-19-is ∙ stamps.1 told.1,
-        )
+        λ t. elim c.if-stamp-cell.either [
+          | inl d ↦ absurd (d.1 (stamps.0 (sym w.t-19-is ∙ t)))
+          | inr f ↦ absurd (true≢false (sym w.if-eq.true ∙ f))
+        ],
+        λ told. w.t-19-is ∙ stamps.1 told.1,
+      )
       | else-eq w ↦ (λ t. absurd (true≢false (sym t ∙ (w.t-19-is ∙ w.if-eq.false))), λ told. w.t-19-is ∙ same.1 told.0)
     ])
 

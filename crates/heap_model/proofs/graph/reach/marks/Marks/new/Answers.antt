@@ -1,4 +1,5 @@
 use Rattle.std.proofs.Common.{◌≡◌, length, map, replicate, ap, ◌∙◌, take_all}
+use Rattle.std.proofs.lemmas.Result.{IfOk-from_err}
 use Rattle.heap_model.specs.graph.Graph.{GraphSeat}
 use Rattle.heap_model.specs.graph.Walks.{marking_by}
 use Rattle.heap_model.proofs.graph_lemmas.WalkLemmas.{AreOfWalks-zeros, zeros_are_no_marks}
@@ -12,3 +13,15 @@ invariant_of-result c = rw (all c) (AreOfWalks-zeros (λ (seat : GraphSeat). len
 
 pub returns : goal.returns
 returns c = ap (marking_by 1 0) (all c) ∙ zeros_are_no_marks (λ (seat : GraphSeat). length seat.objects) c.args.seats.now
+
+pub returns-in_err-rows : goal.returns-in_err-rows
+returns-in_err-rows c = IfOk-from_err c.from_residual.result _ c.from_residual.ensures.0
+
+pub returns-in_err-push : goal.returns-in_err-push
+returns-in_err-push c = IfOk-from_err c.from_residual-in_err-push.result _ c.from_residual-in_err-push.ensures.0
+
+pub returns-in_err-marks : goal.returns-in_err-marks
+returns-in_err-marks c = IfOk-from_err c.from_residual-in_err-marks.result _ c.from_residual-in_err-marks.ensures.0
+
+pub loop-seat-init : goal.loop-seat-init
+loop-seat-init c = c.in_ok-rows.ensures.items
