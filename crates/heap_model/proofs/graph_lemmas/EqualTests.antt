@@ -38,6 +38,7 @@ equal_values (Number n) (Object i) = apart (λ e. cc)
 equal_values (Object i) Nil = apart (λ e. cc)
 equal_values (Object i) (Number n) = apart (λ e. cc)
 
+-- the test of two cells
 pub equal_cells : (x y : Cell) → Decides (of_cells.eq-value.it x y) (x ≡ y)
 equal_cells x y =
     Decides-like _ (λ e. ap (λ u. record { value = u; stamp = x.stamp }) e.0 ∙ ap (λ n. record { value = y.value; stamp = n }) e.1) (λ e. (ap (λ (u : Cell). u.value) e, ap (λ (u : Cell). u.stamp) e))
