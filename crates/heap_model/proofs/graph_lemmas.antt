@@ -1,5 +1,6 @@
 -- The graph that only grows, and what is reached in it.
 pub mod Among
+pub mod EqualTests
 pub mod FoundLemmas
 pub mod Heads
 pub mod InOrder
