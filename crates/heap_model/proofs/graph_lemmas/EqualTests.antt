@@ -47,12 +47,6 @@ equal_cells x y =
 same_test : (x y : Reply) → x ≡ y → of_replies.eq-value.it x y ≡ true
 same_test x y e = subst (λ z. of_replies.eq-value.it x z ≡ true) e (laws.laws-law.refl x)
 
-is_got : (x : Reply) (v : Value) (s : ℕ) → of_replies.eq-value.it x (replies.Got v s) ≡ true → x ≡ replies.Got v s
-is_got (replies.Got w t) v s e =
-    let both = (Decides-and _ _ (equal_values w v) (Decides-eqb t s)).0 e in
-    ap (λ u. replies.Got u t) both.0 ∙ ap (replies.Got v) both.1
-is_got _ v s e = absurd (false≢true e)
-
 is_was : (x : Reply) (s : ℕ) → of_replies.eq-value.it x (replies.Was s) ≡ true → x ≡ replies.Was s
 is_was (replies.Was t) s e = ap replies.Was ((Decides-eqb t s).0 e)
 is_was _ s e = absurd (false≢true e)
@@ -68,10 +62,6 @@ is_no_object _ e = absurd (false≢true e)
 is_no_field : (x : Reply) → of_replies.eq-value.it x replies.NoField ≡ true → x ≡ replies.NoField
 is_no_field replies.NoField e = refl
 is_no_field _ e = absurd (false≢true e)
-
--- the test of a reply against what a get tells of a cell
-pub got_decided : (cell : Cell) (reply : Reply) (r : Bool) → r ≡ of_replies.eq-value.it reply (replies.Got cell.value cell.stamp) → Decides r (reply ≡ replies.Got cell.value cell.stamp)
-got_decided cell reply r e = Decides-at r _ e (is_got reply cell.value cell.stamp, same_test reply _)
 
 -- the test of a reply against what a set tells of a cell
 pub was_decided : (stamp : ℕ) (reply : Reply) (r : Bool) → r ≡ of_replies.eq-value.it reply (replies.Was stamp) → Decides r (reply ≡ replies.Was stamp)
