@@ -188,7 +188,7 @@ module _ (heap : Heap) (words : List ℕ) (parties : List SeatWithRoom) (collect
 
 -- the next step of a party that is a seat is that seat's
 module _ (heap : Heap) (words : List ℕ) (parties : List SeatWithRoom) (collector : Collector) (room gone : ℕ) (value : MachineValue) (number : ℕ) where
-  not_last : value_of heap words parties collector room gone ≡ value → number < length parties → eqb number (length value.state.seats) ≡ false
+  pub not_last : value_of heap words parties collector room gone ≡ value → number < length parties → eqb number (length value.state.seats) ≡ false
   not_last view within =
       let long = length-map parties (λ (s : SeatWithRoom). s.seat) in
       rw (← view) (ne_eqb number (length (map (λ s. s.seat) parties)) (λ e. absurd (omega arith)))
