@@ -1,10 +1,11 @@
 -- A machine at the step of a party, which is a seat's or the collector's. The machine is given by its fields.
-use Rattle.std.proofs.Common.{◌≡◌, ℕ, ◌<◌, ◌≤◌, List, length, Some, true, eqb, eq-eqb, refl, arith}
+use Rattle.std.proofs.Common.{◌≡◌, ℕ, ◌<◌, ◌≤◌, List, length, map, get_or, Some, None, true, eqb, eq-eqb, refl, sym, ap, ◌∙◌, arith}
+use Rattle.std.proofs.lemmas.List.{get_or_past}
 use Rattle.std.proofs.Math.ListN.{length-map}
-use Rattle.core_machine.proofs.Terms.{Heap, Step, due_step, seat_at, Turns, SeatWithRoom, MachineValue}
+use Rattle.core_machine.proofs.Terms.{Heap, Step, due_step, seat_at, absent_seat, Turns, SeatWithRoom, MachineValue, IsMachine}
 use Rattle.core_machine.specs.collector.Collector.{Collector, next_turn}
 use Rattle.core_machine.specs.machine.Value.{due_of, event_of}
-use Rattle.core_machine.proofs.machine_lemmas.Parties.{value_of}
+use Rattle.core_machine.proofs.machine_lemmas.Parties.{state_of, value_of, seat_is_partys}
 use Rattle.core_machine.proofs.machine_lemmas.Stepping.{not_last}
 
 module _ (heap : Heap) (words : List ℕ) (parties : List SeatWithRoom) (collector : Collector) (room gone : ℕ) (value : MachineValue) (number : ℕ)
@@ -31,3 +32,22 @@ module _ (heap : Heap) (words : List ℕ) (parties : List SeatWithRoom) (collect
     last_due step due =
         let same : Some (next_turn value.heap value.state.collector).step ≡ Some step = rw last_test at due in
         cc
+
+module _ (heap : Heap) (words : List ℕ) (parties : List SeatWithRoom) (collector : Collector) (room gone : ℕ) (value : MachineValue) (number : ℕ)
+    (view : value_of heap words parties collector room gone ≡ value) where
+  -- what a party that is a seat has due is what its seat has
+  pub partys_due : (party : SeatWithRoom) → number < length parties → party ≡ get_or parties number party
+      → due_step heap number party.seat ≡ due_step value.heap number (seat_at value.state number)
+  partys_due party within here =
+      let is = seat_is_partys words parties collector number party within ∙ sym (ap (λ (s : SeatWithRoom). s.seat) here) in
+      rw (← view, is) refl
+
+  -- a number past those of the seats has nothing due
+  pub none_is_due : length parties ≤ number → None ≡ due_step value.heap number (seat_at value.state number)
+  none_is_due past =
+      let long = length-map parties (λ (s : SeatWithRoom). s.seat) in
+      rw (← view, get_or_past (map (λ (s : SeatWithRoom). s.seat) parties) number absent_seat (omega (arith, long, past))) refl
+
+  -- a party's number is a seat's
+  pub party_number_is_seats : number < length parties → IsMachine heap (state_of words parties collector) → number < heap.seats
+  party_number_is_seats within machine = omega (arith, length-map parties (λ (s : SeatWithRoom). s.seat), machine.seated)

@@ -1,0 +1,52 @@
+-- A machine one of whose parties got room. The machine is given by its fields.
+use Rattle.std.proofs.Common.{◌≡◌, ◌≢◌, ℕ, ◌<◌, ◌≤◌, List, [], ◌∷◌, ◌++◌, length, map, get_or, set, refl, subst, sym, ap, ◌∙◌, arith}
+use Rattle.std.proofs.lemmas.List.{set-get_or}
+use Rattle.std.proofs.Math.ListN.{length-map}
+use Rattle.core_machine.proofs.Terms.{Heap, SeatWithRoom, MachineValue, IsMachine, spare_of}
+use Rattle.core_machine.specs.collector.Collector.{Collector}
+use Rattle.core_machine.specs.machine.Value.{CollectorWithRoom}
+use Rattle.core_machine.proofs.machine_lemmas.Parties.{state_of, value_of, each_but_last, last_here}
+use Rattle.core_machine.proofs.machine_lemmas.PartySteps.{party_is_last}
+
+module _ (heap : Heap) (words : List ℕ) (parties : List SeatWithRoom) (collector : Collector) (room gone : ℕ) (value : MachineValue)
+    (view : value_of heap words parties collector room gone ≡ value) where
+  -- a seat's party that is as it was leaves the value
+  pub same_party_leaves_value : (number : ℕ) (party next : SeatWithRoom) → party ≡ get_or parties number party → next ≡ party
+      → value_of heap words (set parties number next) collector room gone ≡ value
+  same_party_leaves_value number party next here same =
+      let seats : set parties number next ≡ parties = ap (set parties number) (same ∙ here) ∙ set-get_or parties number party in
+      rw seats view
+
+  -- and so does the collector
+  pub same_collector_leaves_value : (party next : CollectorWithRoom) → party.collector ≡ collector → party.spare ≡ room → party.forgotten ≡ gone → next ≡ party
+      → value_of heap words parties next.collector next.spare next.forgotten ≡ value
+  same_collector_leaves_value party next is spare forgotten same = rw (same, is, spare, forgotten) view
+
+  module _ (next : Collector) (left kept : ℕ) (same : next ≡ collector) where
+    -- a machine stays one when the collector gets room
+    pub collector_room_leaves_machine : IsMachine heap (state_of words parties collector) → IsMachine heap (state_of words parties next)
+    collector_room_leaves_machine machine = subst (λ (c : Collector). IsMachine heap (state_of words parties c)) (sym same) machine
+
+    -- its value is the same but for the room
+    pub collector_room_leaves_value : kept ≡ gone → value_of heap words parties next left kept ≡ record value { spares = map (λ (s : SeatWithRoom). s.spare) parties ++ left ∷ [] }
+    collector_room_leaves_value still = rw (← view, same, still) refl
+
+    module _ (number : ℕ) (past : length parties ≤ number) (within : number ≤ length value.state.seats) where
+      number_is : number ≡ length parties
+      number_is =
+          let long : length value.state.seats ≡ length parties = rw (← view) (length-map parties (λ (s : SeatWithRoom). s.seat)) in
+          party_is_last heap words parties collector room gone value number view past within ∙ long
+
+      -- the collector has as much as it got
+      pub collector_has_room : spare_of (value_of heap words parties next left kept) number ≡ left
+      collector_has_room = rw number_is (last_here (λ (s : SeatWithRoom). s.spare) parties left)
+
+      -- no less than it had
+      pub collector_gets_room : room ≤ left → spare_of value number ≤ spare_of (value_of heap words parties next left kept) number
+      collector_gets_room more =
+          let was : spare_of value number ≡ room = rw (← view, number_is) (last_here (λ (s : SeatWithRoom). s.spare) parties room) in
+          omega (arith, was, collector_has_room, more)
+
+      -- and the others have what they had
+      pub others_keep_room : (other : ℕ) → other ≢ number → spare_of (value_of heap words parties next left kept) other ≡ spare_of value other
+      others_keep_room other apart = rw (← view) (each_but_last (λ (s : SeatWithRoom). s.spare) parties room left other (subst (λ (n : ℕ). other ≢ n) number_is apart))
