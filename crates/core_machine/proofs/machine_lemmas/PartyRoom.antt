@@ -5,7 +5,7 @@ use Rattle.std.proofs.Math.ListN.{length-map}
 use Rattle.core_machine.proofs.Terms.{Heap, SeatWithRoom, MachineValue, IsMachine, spare_of}
 use Rattle.core_machine.specs.collector.Collector.{Collector}
 use Rattle.core_machine.specs.machine.Value.{CollectorWithRoom}
-use Rattle.core_machine.proofs.machine_lemmas.Parties.{state_of, value_of, each_but_last, last_here}
+use Rattle.core_machine.proofs.machine_lemmas.Parties.{state_of, value_of, seat_number_is_partys, each_but_last, last_here}
 use Rattle.core_machine.proofs.machine_lemmas.PartySteps.{party_is_last}
 
 module _ (heap : Heap) (words : List ℕ) (parties : List SeatWithRoom) (collector : Collector) (room gone : ℕ) (value : MachineValue)
@@ -22,6 +22,18 @@ module _ (heap : Heap) (words : List ℕ) (parties : List SeatWithRoom) (collect
       → value_of heap words parties next.collector next.spare next.forgotten ≡ value
   same_collector_leaves_value party next is spare forgotten same = rw (same, is, spare, forgotten) view
 
+  -- a seat's room is its party's
+  pub spare_is_partys : (number : ℕ) (party : SeatWithRoom) → number < length parties → party ≡ get_or parties number party → party.spare ≡ spare_of value number
+  spare_is_partys number party within here =
+      rw (← view) (ap (λ (s : SeatWithRoom). s.spare) here ∙ sym (seat_number_is_partys (λ (s : SeatWithRoom). s.spare) parties room number party within))
+
+  -- and that of the party behind the seats is the collector's
+  pub spare_is_collectors : (number : ℕ) → length parties ≤ number → number ≤ length value.state.seats → room ≡ spare_of value number
+  spare_is_collectors number past within =
+      let long : length value.state.seats ≡ length parties = rw (← view) (length-map parties (λ (s : SeatWithRoom). s.seat)) in
+      let is : number ≡ length parties = omega arith in
+      rw (← view, is) (sym (last_here (λ (s : SeatWithRoom). s.spare) parties room))
+
   module _ (next : Collector) (left kept : ℕ) (same : next ≡ collector) where
     -- a machine stays one when the collector gets room
     pub collector_room_leaves_machine : IsMachine heap (state_of words parties collector) → IsMachine heap (state_of words parties next)
@@ -30,6 +42,11 @@ module _ (heap : Heap) (words : List ℕ) (parties : List SeatWithRoom) (collect
     -- its value is the same but for the room
     pub collector_room_leaves_value : kept ≡ gone → value_of heap words parties next left kept ≡ record value { spares = map (λ (s : SeatWithRoom). s.spare) parties ++ left ∷ [] }
     collector_room_leaves_value still = rw (← view, same, still) refl
+
+    -- and where it forgets entries, but for these too
+    pub collector_forgets : value_of heap words parties next left kept
+        ≡ record value { spares = map (λ (s : SeatWithRoom). s.spare) parties ++ left ∷ []; forgotten = map (λ (s : SeatWithRoom). s.forgotten) parties ++ kept ∷ [] }
+    collector_forgets = rw (← view, same) refl
 
     module _ (number : ℕ) (past : length parties ≤ number) (within : number ≤ length value.state.seats) where
       number_is : number ≡ length parties

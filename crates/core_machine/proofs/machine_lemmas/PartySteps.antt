@@ -1,5 +1,5 @@
 -- A machine at the step of a party, which is a seat's or the collector's. The machine is given by its fields.
-use Rattle.std.proofs.Common.{◌≡◌, ℕ, ◌<◌, ◌≤◌, List, length, map, get_or, Some, None, true, eqb, eq-eqb, refl, sym, ap, ◌∙◌, arith}
+use Rattle.std.proofs.Common.{◌≡◌, ℕ, ◌<◌, ◌≤◌, List, length, map, get_or, Option, Some, None, true, eqb, eq-eqb, refl, subst, sym, ap, ◌∙◌, arith}
 use Rattle.std.proofs.lemmas.List.{get_or_past}
 use Rattle.std.proofs.Math.ListN.{length-map}
 use Rattle.core_machine.proofs.Terms.{Heap, Step, due_step, seat_at, absent_seat, Turns, SeatWithRoom, MachineValue, IsMachine}
@@ -13,6 +13,10 @@ module _ (heap : Heap) (words : List ℕ) (parties : List SeatWithRoom) (collect
   -- the step that is due of a party that is a seat is the seat's
   pub seat_due : (step : Step) → number < length parties → due_of value.heap value.state number ≡ Some step → due_step value.heap number (seat_at value.state number) ≡ Some step
   seat_due step within due = rw (not_last heap words parties collector room gone value number view within) at due
+
+  -- and the party has it due
+  pub seat_is_due : (due : Option Step) → number < length parties → due ≡ due_step value.heap number (seat_at value.state number) → due ≡ due_of value.heap value.state number
+  seat_is_due due within is = rw (not_last heap words parties collector room gone value number view within) is
 
   module _ (past : length parties ≤ number) (within : number ≤ length value.state.seats) where
     -- the number behind those of the seats is the collector's
@@ -32,6 +36,11 @@ module _ (heap : Heap) (words : List ℕ) (parties : List SeatWithRoom) (collect
     last_due step due =
         let same : Some (next_turn value.heap value.state.collector).step ≡ Some step = rw last_test at due in
         cc
+
+    pub turn_is_due : (step : Step) → step ≡ (next_turn heap collector).step → Some step ≡ due_of value.heap value.state number
+    turn_is_due step is =
+        let seen : step ≡ (next_turn value.heap value.state.collector).step = subst (λ (v : MachineValue). step ≡ (next_turn v.heap v.state.collector).step) view is in
+        rw last_test (ap Some seen)
 
 module _ (heap : Heap) (words : List ℕ) (parties : List SeatWithRoom) (collector : Collector) (room gone : ℕ) (value : MachineValue) (number : ℕ)
     (view : value_of heap words parties collector room gone ≡ value) where
