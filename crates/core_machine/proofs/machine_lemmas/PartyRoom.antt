@@ -1,8 +1,8 @@
 -- A machine one of whose parties got room. The machine is given by its fields.
-use Rattle.std.proofs.Common.{◌≡◌, ◌≢◌, ℕ, ◌<◌, ◌≤◌, List, [], ◌∷◌, ◌++◌, length, map, get_or, set, refl, subst, sym, ap, ◌∙◌, arith}
+use Rattle.std.proofs.Common.{◌≡◌, ◌≢◌, ℕ, ◌<◌, ◌≤◌, List, [], ◌∷◌, ◌++◌, length, drop, map, get_or, set, eq-eqb, refl, subst, sym, ap, ◌∙◌, arith}
 use Rattle.std.proofs.lemmas.List.{set-get_or}
 use Rattle.std.proofs.Math.ListN.{length-map}
-use Rattle.core_machine.proofs.Terms.{Heap, SeatWithRoom, MachineValue, IsMachine, spare_of}
+use Rattle.core_machine.proofs.Terms.{Heap, SeatWithRoom, MachineValue, IsMachine, Entry, spare_of, forgotten_of, log_of, recent_of}
 use Rattle.core_machine.specs.collector.Collector.{Collector}
 use Rattle.core_machine.specs.machine.Value.{CollectorWithRoom}
 use Rattle.core_machine.proofs.machine_lemmas.Parties.{state_of, value_of, seat_number_is_partys, each_but_last, last_here}
@@ -33,6 +33,15 @@ module _ (heap : Heap) (words : List ℕ) (parties : List SeatWithRoom) (collect
       let long : length value.state.seats ≡ length parties = rw (← view) (length-map parties (λ (s : SeatWithRoom). s.seat)) in
       let is : number ≡ length parties = omega arith in
       rw (← view, is) (sym (last_here (λ (s : SeatWithRoom). s.spare) parties room))
+
+  -- what is shown of that party is what the collector shows
+  pub collectors_shown : (number : ℕ) (told : List Entry) → length parties ≤ number → number ≤ length value.state.seats → told ≡ drop gone collector.log → gone ≤ length collector.log
+      → (told ≡ recent_of value number) × (forgotten_of value number ≤ length (log_of value number))
+  collectors_shown number told past within is some =
+      let long : length value.state.seats ≡ length parties = rw (← view) (length-map parties (λ (s : SeatWithRoom). s.seat)) in
+      let here : number ≡ length parties = omega arith in
+      let last = eq-eqb (length parties) (length (map (λ (s : SeatWithRoom). s.seat) parties)) (sym (length-map parties (λ (s : SeatWithRoom). s.seat))) in
+      rw (← view, here, last, last_here (λ (s : SeatWithRoom). s.forgotten) parties gone) (is, some)
 
   module _ (next : Collector) (left kept : ℕ) (same : next ≡ collector) where
     -- a machine stays one when the collector gets room

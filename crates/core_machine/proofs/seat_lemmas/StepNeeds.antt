@@ -1,10 +1,10 @@
 -- What a seat's step needs of its command and of the word found, and what a step without entries leaves.
 use Rattle.std.specs.Prelude.{IfSome}
-use Rattle.std.proofs.Common.{suc, ◌≡◌, ℕ, ◌+◌, ◌<◌, ◌≤◌, ◌^◌, [], List, length, Option, Some, None, inl, inr, refl, sym, ap, ◌∙◌, append-nil, arith}
+use Rattle.std.proofs.Common.{suc, ◌≡◌, ℕ, ◌+◌, ◌<◌, ◌≤◌, ◌^◌, [], List, length, Option, Some, None, inl, inr, refl, subst, sym, ap, ◌∙◌, append-nil, arith}
 use Rattle.std.proofs.lemmas.Bool.Decides.{leb_tells}
 use Rattle.heap_model.specs.Limits.{register_count, last_index}
 use Rattle.heap_model.specs.Command.{IsCommand}
-use Rattle.core_machine.proofs.Terms.{Heap, IsHeap, Entry, Command, New, Array, Get, Set, Cas, Len, target_of, source_of, field_of, IsWithinHeap, Seat, spine_need, after_budget, gather_next}
+use Rattle.core_machine.proofs.Terms.{Heap, IsHeap, Entry, Command, New, Array, Get, Set, Cas, Len, target_of, source_of, field_of, IsWithinHeap, Seat, spine_need, after_budget, Point, SeatWithRoom}
 use Rattle.heap_model.specs.declared.command.Command.TheVariants.{Num, Nil, Copy, Same}
 use Rattle.core_machine.specs.seat.Seat.{with_entries}
 use Rattle.core_machine.proofs.seat_lemmas.Fitting.{goes_on_cases}
@@ -48,3 +48,7 @@ budget_adds_nothing heap seat found =
       | inl many ↦ rw many.0 refl
       | inr few ↦ rw few.0 (goes_on_cases (λ s. s.mine ≡ seat.mine) heap seat (λ _. refl) (λ _ _. refl) (λ _ _. refl))
     ]
+
+-- a party's seat stands where its point says
+pub point_is : (party value : SeatWithRoom) (point : Point) → party ≡ value → party.seat.point ≡ point → value.seat.point ≡ point
+point_is party value point view at = subst (λ (p : SeatWithRoom). p.seat.point ≡ point) view at

@@ -3,12 +3,12 @@ use Rattle.core_machine.proofs.seat_lemmas.StepNeeds.{target_is_register, source
 use Rattle.core_machine.proofs.seat.SeatParty.learn_access.Goals as goal
 
 pub learn_meta-requires-clause-command : goal.learn_meta-requires-clause-command
-learn_meta-requires-clause-command g c = 
+learn_meta-requires-clause-command g c =
     let at = rw c.in-LoadingMeta.is at c.requires.at_point in
     at.works.in_range
 
 pub learn_meta-requires-clause-field : goal.learn_meta-requires-clause-field
-learn_meta-requires-clause-field g c = 
+learn_meta-requires-clause-field g c =
     let at = rw c.in-LoadingMeta.is at c.requires.at_point in
     field_is_index c.args.self.now.seat.command at.works.in_range
 
@@ -19,7 +19,7 @@ pub learn_meta-requires-clause-spare : goal.learn_meta-requires-clause-spare
 learn_meta-requires-clause-spare g c = c.requires.spare
 
 pub learn_link-requires-clause-command : goal.learn_link-requires-clause-command
-learn_link-requires-clause-command g c = 
+learn_link-requires-clause-command g c =
     let at = rw c.in-Walking.is at c.requires.at_point in
     at.works.in_range
 
@@ -27,7 +27,7 @@ pub learn_link-requires-clause-leads : goal.learn_link-requires-clause-leads
 learn_link-requires-clause-leads g c = within_heap_is_small c.args.heap.now _ c.requires.limits (rw c.in-Walking.is at c.requires.found)
 
 pub learn_index-requires-clause-command : goal.learn_index-requires-clause-command
-learn_index-requires-clause-command g c = 
+learn_index-requires-clause-command g c =
     let at = rw c.in-Indexing.is at c.requires.at_point in
     at.works.in_range
 
@@ -35,7 +35,7 @@ pub learn_index-requires-clause-leads : goal.learn_index-requires-clause-leads
 learn_index-requires-clause-leads g c = within_heap_is_small c.args.heap.now (Some _) c.requires.limits (rw c.in-Indexing.is at c.requires.found)
 
 pub learn_get-requires-clause-target : goal.learn_get-requires-clause-target
-learn_get-requires-clause-target g c = 
+learn_get-requires-clause-target g c =
     let at = rw c.in-Getting.is at c.requires.at_point in
     target_is_register c.args.self.now.seat.command at.0.0.in_range
 
@@ -43,7 +43,7 @@ pub learn_get-requires-clause-spare : goal.learn_get-requires-clause-spare
 learn_get-requires-clause-spare g c = c.requires.spare
 
 pub learn_name-requires-clause-target : goal.learn_name-requires-clause-target
-learn_name-requires-clause-target g c = 
+learn_name-requires-clause-target g c =
     let at = rw c.in-Naming.is at c.requires.at_point in
     target_is_register c.args.self.now.seat.command at.0.0.in_range
 
@@ -54,12 +54,12 @@ pub learn_name-requires-clause-spare : goal.learn_name-requires-clause-spare
 learn_name-requires-clause-spare g c = c.requires.spare
 
 pub learn_old-requires : goal.learn_old-requires
-learn_old-requires g c = 
+learn_old-requires g c =
     let at = rw c.in-LoadingOld.is at c.requires.at_point in
     source_is_register c.args.self.now.seat.command at.0.0.in_range
 
 pub finish_old-requires : goal.finish_old-requires
-finish_old-requires g c = 
+finish_old-requires g c =
     let at = rw c.in-ShadingOld.is at c.requires.at_point in
     source_is_register c.args.self.now.seat.command at.0.0.in_range
 
@@ -67,12 +67,12 @@ pub learn_swap-requires-clause-spare : goal.learn_swap-requires-clause-spare
 learn_swap-requires-clause-spare g c = c.requires.spare
 
 pub learn_side-requires : goal.learn_side-requires
-learn_side-requires g c = 
+learn_side-requires g c =
     let at = rw c.in-ShadingSide.is at c.requires.at_point in
     at.0.0.in_range
 
 pub learn_replace-requires-clause-command : goal.learn_replace-requires-clause-command
-learn_replace-requires-clause-command g c = 
+learn_replace-requires-clause-command g c =
     let at = rw c.in-Replacing.is at c.requires.at_point in
     at.0.in_range
 
