@@ -1,11 +1,11 @@
 -- What a seat's step needs of its command and of the word found, and what a step without entries leaves.
 use Rattle.std.specs.Prelude.{IfSome}
-use Rattle.std.proofs.Common.{suc, ◌≡◌, ℕ, ◌+◌, ◌<◌, ◌≤◌, ◌^◌, [], List, length, Option, Some, None, inl, inr, refl, subst, sym, ap, ◌∙◌, append-nil, arith}
+use Rattle.std.proofs.Common.{suc, ◌≡◌, ℕ, ◌+◌, ◌<◌, ◌≤◌, ◌^◌, [], List, Option, Some, None, inl, inr, refl, subst, sym, ap, ◌∙◌, append-nil, arith}
 use Rattle.std.proofs.lemmas.Bool.Decides.{leb_tells}
 use Rattle.heap_model.specs.Limits.{register_count, last_index}
 use Rattle.heap_model.specs.Command.{IsCommand}
-use Rattle.core_machine.proofs.Terms.{Heap, IsHeap, Entry, Command, New, Array, Get, Set, Cas, Len, target_of, source_of, field_of, IsWithinHeap, Seat, spine_need, after_budget, Point, SeatWithRoom}
-use Rattle.heap_model.specs.declared.command.Command.TheVariants.{Num, Nil, Copy, Same}
+use Rattle.core_machine.proofs.Terms.{Heap, IsHeap, Entry, Command, New, Array, Get, Set, Cas, target_of, source_of, field_of, IsWithinHeap, Seat, spine_need, after_budget, Point, SeatWithRoom}
+use Rattle.heap_model.specs.declared.command.Command.TheVariants.{Num, Nil, Copy}
 use Rattle.core_machine.specs.seat.Seat.{with_entries}
 use Rattle.core_machine.proofs.seat_lemmas.Fitting.{goes_on_cases}
 
