@@ -3,6 +3,8 @@ pub mod BoardPlace
 pub mod OpeningMachine
 pub mod Opens
 pub mod Parties
+pub mod PartyRoom
+pub mod PartySteps
 pub mod Runs
 pub mod SeatSteps
 pub mod Stepping

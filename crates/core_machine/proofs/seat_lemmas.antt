@@ -7,3 +7,4 @@ pub mod FittingAccess
 pub mod Held
 pub mod LastRun
 pub mod PollingOver
+pub mod StepNeeds

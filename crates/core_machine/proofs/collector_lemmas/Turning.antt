@@ -1,7 +1,8 @@
 -- A machine after a turn of the collector.
 use Rattle.std.proofs.Common.{◌≡◌, ℕ, ◌+◌, ◌≤◌, List, [], ◌∷◌, ◌++◌, length, map, refl, ap, subst, sym, eq-eqb}
 use Rattle.std.proofs.Math.ListN.{length-map}
-use Rattle.core_machine.proofs.Terms.{Heap, Step, FoundPointsWithin, put, InTable, address_of, word_after, found_by, state_after, Turns, SeatWithRoom, MachineValue, SpendsRoom, IsMachine}
+use Rattle.heap_model.specs.declared.calls.collector_calls.Turn.{Turn}
+use Rattle.core_machine.proofs.Terms.{Heap, Step, FoundPointsWithin, put, InTable, address_of, word_after, found_by, state_after, Turns, SeatWithRoom, MachineValue, spare_of, SpendsRoom, IsMachine}
 use Rattle.core_machine.specs.collector.Collector.{Collector, next_turn, collector_after}
 use Rattle.core_machine.proofs.collector_lemmas.{turn_stands}
 use Rattle.core_machine.proofs.machine_lemmas.Parties.{state_of, value_of, each_but_last, last_here}
@@ -35,6 +36,34 @@ module _ (heap : Heap) (words : List ℕ) (parties : List SeatWithRoom) (collect
       → (next_turn heap collector).may → IsMachine heap (state_of words parties collector) → IsMachine heap (state_of now parties next)
   turn_leaves_machine found now next is now_is next_is may machine =
       subst (IsMachine heap) (sym (turn_leaves found now next is now_is next_is)) (event_leaves_machine heap (state_of words parties collector) Turns machine may)
+
+  -- it leaves the state after it
+  pub turn_leaves_state : (found : ℕ) (now : List ℕ) (next : Collector) → found ≡ found_by heap (state_of words parties collector) step
+      → now ≡ put heap words (address_of step) (word_after step found) → next ≡ collector_after (next_turn heap collector) found
+      → state_of now parties next ≡ state_after value.heap value.state Turns
+  turn_leaves_state found now next is now_is next_is =
+      subst (λ (v : MachineValue). state_of now parties next ≡ state_after v.heap v.state Turns) view (turn_leaves found now next is now_is next_is)
+
+  -- of the same heap
+  pub same_heap : heap ≡ value.heap
+  same_heap = ap (λ (v : MachineValue). v.heap) view
+
+  -- what the value says of the turn is so of the collector
+  pub turn_may : (next_turn heap collector).may → (next_turn value.heap value.state.collector).may
+  turn_may may = subst (λ (v : MachineValue). (next_turn v.heap v.state.collector).may) view may
+
+  pub turn_found : (found : ℕ) → found ≡ found_by heap (state_of words parties collector) step → found ≡ found_by value.heap value.state step
+  turn_found found is = subst (λ (v : MachineValue). found ≡ found_by v.heap v.state step) view is
+
+  pub turn_answer : (found : ℕ) (answer : Turn) → answer ≡ (next_turn heap collector).answer found → answer ≡ (next_turn value.heap value.state.collector).answer found
+  turn_answer found answer is = subst (λ (v : MachineValue). answer ≡ (next_turn v.heap v.state.collector).answer found) view is
+
+  pub collector_room : 2 ≤ spare_of value (length value.state.seats) → 2 ≤ room
+  collector_room enough =
+      let long = length-map parties (λ (s : SeatWithRoom). s.seat) in
+      let is = last_here (λ (s : SeatWithRoom). s.spare) parties room in
+      let had : 2 ≤ spare_of (value_of heap words parties collector room gone) (length parties) = rw long at (rw (← view) at enough) in
+      rw is at had
 
 -- the number behind the seats' is the collector's: it lost no more room than its new entries take, and no seat lost any
 pub turn_spends : (heap : Heap) (words now : List ℕ) (parties : List SeatWithRoom) (collector next : Collector) (room left gone kept : ℕ) (value : MachineValue)

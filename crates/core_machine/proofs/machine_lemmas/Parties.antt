@@ -1,11 +1,13 @@
 -- A machine's value as its parties make it up.
-use Rattle.std.proofs.Common.{suc, ◌≡◌, ◌↔◌, Bool, ◌≢◌, ℕ, ◌<◌, List, [], ◌∷◌, ◌++◌, length, map, get_or, set, subst, sym, ap, ◌∙◌, inl, inr, arith, length-append}
+use Rattle.std.proofs.Common.{suc, ◌≡◌, ◌↔◌, Bool, false, ◌≢◌, ℕ, ◌<◌, ◌≤◌, List, [], ◌∷◌, ◌++◌, length, map, get_or, set, subst, sym, ap, ◌∙◌, inl, inr, arith, length-append}
 use Rattle.std.specs.Prelude.{IsTrue}
+use Rattle.std.proofs.lemmas.Bool.{false≢true}
 use Rattle.std.proofs.lemmas.Bool.Decides.{leb_tells}
 use Rattle.std.proofs.lemmas.List.{length-set, map-set, get_or-map, get_or_past, get_or-set_same, get_or-set_other, set-append_left}
 use Rattle.std.proofs.Math.ListN.{get_or-append, length-map}
 use Rattle.std.proofs.Math.Seq.{get_or-append_seam, map-set_same}
-use Rattle.core_machine.proofs.Terms.{Heap, Command, MayBegin, Seat, absent_seat, State, seat_at, Fits, SeatWithRoom, MachineValue, IsMachine}
+use Rattle.core_machine.proofs.Terms.{Heap, Command, MayBegin, MayBeginInner, Seat, absent_seat, State, seat_at, Fits, SeatWithRoom, MachineValue, IsMachine}
+use Rattle.heap_model.specs.declared.calls.collect.Inner.{Inner}
 use Rattle.core_machine.specs.collector.Collector.{Collector}
 
 -- the state of these words and parties
@@ -85,6 +87,21 @@ pub begins_of : {told : Bool} (words : List ℕ) (parties : List SeatWithRoom) (
 begins_of words parties collector number p command within is tells =
     let long = length-map parties (λ (s : SeatWithRoom). s.seat) in
     rw (seat_is_partys words parties collector number p within ∙ sym (ap (λ (s : SeatWithRoom). s.seat) is)) (λ may. (omega (arith, long, within), tells.0 may), λ both. tells.1 both.1)
+
+-- and the same of an inner call
+pub inner_begins_of : {told : Bool} (heap : Heap) (words : List ℕ) (parties : List SeatWithRoom) (collector : Collector) (number : ℕ) (p : SeatWithRoom) (inner : Inner) → number < length parties
+    → p ≡ get_or parties number p → (IsTrue told ↔ MayBeginInner heap number p.seat inner)
+    → (IsTrue told ↔ (number < length (state_of words parties collector).seats) × MayBeginInner heap number (seat_at (state_of words parties collector) number) inner)
+inner_begins_of heap words parties collector number p inner within is tells =
+    let long = length-map parties (λ (s : SeatWithRoom). s.seat) in
+    rw (seat_is_partys words parties collector number p within ∙ sym (ap (λ (s : SeatWithRoom). s.seat) is)) (λ may. (omega (arith, long, within), tells.0 may), λ both. tells.1 both.1)
+
+-- a number past those of the seats may begin nothing
+pub none_begins : (parties : List SeatWithRoom) (number : ℕ) (May : Type 0) → length parties ≤ number
+    → (IsTrue false ↔ (number < length (map (λ (p : SeatWithRoom). p.seat) parties)) × May)
+none_begins parties number May past =
+    let long = length-map parties (λ (s : SeatWithRoom). s.seat) in
+    (λ is. absurd (false≢true is), λ both. absurd (omega (arith, long, both.0)))
 
 -- a seat that was put in its position
 pub set_seat_is_read : (seats : List Seat) (number : ℕ) (seat : Seat) → number < length seats → get_or (set seats number seat) number absent_seat ≡ seat

@@ -1,5 +1,6 @@
 -- A machine at the step of a seat: what is known before it, and what it leaves. The machine is given by its fields, and the step is due by its value.
-use Rattle.std.proofs.Common.{◌≡◌, ℕ, ◌+◌, ◌<◌, ◌≤◌, List, length, get_or, set, Some, subst, sym, arith}
+use Rattle.std.proofs.Common.{◌≡◌, ℕ, ◌+◌, ◌<◌, ◌≤◌, List, length, get_or, set, Some, subst, sym, ap, arith}
+use Rattle.std.proofs.Math.ListN.{length-map}
 use Rattle.std.specs.Prelude.{IfSome}
 use Rattle.core_machine.proofs.Terms.{Heap, Step, put, InTable, FoundPointsWithin, address_of, word_after, Fits, next_move, due_step, seat_after_due, seat_at, found_by, Steps}
 use Rattle.core_machine.proofs.Terms.{state_after, SeatWithRoom, MachineValue, spare_of, SpendsRoom, IsMachine}
@@ -14,6 +15,20 @@ module _ (heap : Heap) (words : List ℕ) (parties : List SeatWithRoom) (collect
 
   within : number < length parties
   within = due_party_is_seat heap words parties collector number step due
+
+  -- so it is a seat's
+  pub step_is_a_seats : number < length parties
+  step_is_a_seats = within
+
+  pub step_is_of_heap : IsMachine heap (state_of words parties collector) → number < heap.seats
+  step_is_of_heap machine = omega (arith, within, length-map parties (λ (s : SeatWithRoom). s.seat), machine.seated)
+
+  -- what the value says of the heap and of the word found is so
+  pub step_heap : heap ≡ value.heap
+  step_heap = ap (λ (v : MachineValue). v.heap) view
+
+  pub step_found : (found : ℕ) → found ≡ found_by heap (state_of words parties collector) step → found ≡ found_by value.heap value.state step
+  step_found found is = subst (λ (v : MachineValue). found ≡ found_by v.heap v.state step) view is
 
   -- its word is in the table
   pub step_word_in_table : IsMachine heap (state_of words parties collector) → InTable heap (address_of step)

@@ -52,6 +52,10 @@ module _ (heap : Heap) (words : List ℕ) (parties : List SeatWithRoom) (collect
   seat_within : number < length (map (λ s. s.seat) parties)
   seat_within = omega (arith, within, length-map parties (λ (s : SeatWithRoom). s.seat))
 
+  -- its party may begin what it may
+  pub party_may_begin : (command : Command) → MayBegin (seat_at (state_of words parties collector) number) command → MayBegin party.seat command
+  party_may_begin command may = subst (λ (s : Seat). MayBegin s command) the_seat may
+
   begin_state : (command : Command) → next.seat ≡ after_begin heap party.seat command
       → state_of words (set parties number next) collector ≡ state_after heap (state_of words parties collector) (Begins number command)
   begin_state command is =
@@ -188,7 +192,7 @@ module _ (heap : Heap) (words : List ℕ) (parties : List SeatWithRoom) (collect
 
 -- the next step of a party that is a seat is that seat's
 module _ (heap : Heap) (words : List ℕ) (parties : List SeatWithRoom) (collector : Collector) (room gone : ℕ) (value : MachineValue) (number : ℕ) where
-  not_last : value_of heap words parties collector room gone ≡ value → number < length parties → eqb number (length value.state.seats) ≡ false
+  pub not_last : value_of heap words parties collector room gone ≡ value → number < length parties → eqb number (length value.state.seats) ≡ false
   not_last view within =
       let long = length-map parties (λ (s : SeatWithRoom). s.seat) in
       rw (← view) (ne_eqb number (length (map (λ s. s.seat) parties)) (λ e. absurd (omega arith)))

@@ -1,8 +1,10 @@
-use Rattle.std.proofs.Common.{◌≡◌, ◌≢◌, ℕ, ◌<◌, length, refl, subst, arith}
+use Rattle.std.proofs.Common.{◌≡◌, ◌≢◌, ℕ, ◌<◌, length, refl, subst, ap, arith}
 use Rattle.std.proofs.Math.ListN.{length-map}
 use Rattle.core_machine.proofs.Terms.{SeatWithRoom}
 use Rattle.core_machine.proofs.machine_lemmas.Parties.{other_party_keeps_number, each_but_last}
 use Rattle.core_machine.proofs.machine_lemmas.Stepping.{room_leaves_state, room_leaves_machine, spare_was_partys, own_spare_is_partys}
+use Rattle.core_machine.specs.machine.Value.{CollectorWithRoom}
+use Rattle.core_machine.proofs.machine_lemmas.PartyRoom.{collector_room_leaves_machine, collector_forgets, collector_gets_room}
 use Rattle.core_machine.proofs.machine.Machine.forget.Goals as goal
 
 pub invariant_of-self : goal.invariant_of-self
@@ -44,3 +46,25 @@ returns-else-party-len-clause-others g c =
       each_but_last (λ (p : SeatWithRoom). p.forgotten) m.seats.items m.collector.forgotten c.forget-else-party-len.new.self.forgotten other (subst (λ (n : ℕ). other ≢ n) last apart),
       each_but_last (λ (p : SeatWithRoom). p.spare) m.seats.items m.collector.spare c.forget-else-party-len.new.self.spare other (subst (λ (n : ℕ). other ≢ n) last apart),
     ))
+
+pub index_mut-seat-requires : goal.index_mut-seat-requires
+index_mut-seat-requires g c = omega (arith, c.if-party-len.true, c.len.ensures)
+
+pub invariant_of-self-else-party-len : goal.invariant_of-self-else-party-len
+invariant_of-self-else-party-len g c =
+    let next = c.forget-else-party-len.new.self in
+    let same = ap (λ (p : CollectorWithRoom). p.collector) c.forget-else-party-len.ensures.same in
+    collector_room_leaves_machine _ _ _ _ _ _ _ c.self.view_is next.collector next.spare next.forgotten same c.self.invariant
+
+pub returns-else-party-len-clause-same : goal.returns-else-party-len-clause-same
+returns-else-party-len-clause-same g c =
+    let next = c.forget-else-party-len.new.self in
+    let same = ap (λ (p : CollectorWithRoom). p.collector) c.forget-else-party-len.ensures.same in
+    collector_forgets _ _ _ _ _ _ _ c.self.view_is next.collector next.spare next.forgotten same
+
+pub returns-else-party-len-clause-more : goal.returns-else-party-len-clause-more
+returns-else-party-len-clause-more g c =
+    let next = c.forget-else-party-len.new.self in
+    let same = ap (λ (p : CollectorWithRoom). p.collector) c.forget-else-party-len.ensures.same in
+    collector_gets_room _ _ _ _ _ _ _ c.self.view_is next.collector next.spare next.forgotten same c.args.party
+    (omega (arith, c.if-party-len.false, c.len.ensures)) c.requires c.forget-else-party-len.ensures.spare
