@@ -3,10 +3,14 @@
 ghost use Rattle.std.specs.Prelude.{IsTrue};
 ghost use Rattle.core_machine.specs.seat.Commands.{IsServed};
 ghost use Rattle.heap_model.specs.calls.SeatCalls.{IsReady};
+ghost use Rattle.library_tests.specs.SameSeat.{IsSameSeat};
 
+use core_machine::ShowsLast;
 use heap_model::{
-    Command, Full, Id, NoObject, PlaceRefusal, Reply, SeatCalls, SpaceRefusal, Swapped, Value,
+    Command, Full, Id, Memory, NoObject, PlaceRefusal, Reply, SeatCalls, SpaceRefusal, Swapped,
+    Value,
 };
+use mutator_seat::Seat;
 
 /// Whether the seat may be called by the command.
 pub fn may_call<S: SeatCalls>(seat: &S, command: &Command) -> bool
@@ -17,6 +21,21 @@ pub fn may_call<S: SeatCalls>(seat: &S, command: &Command) -> bool
     let counts = seat.names_left() > 0 && seat.stamps_left() > 0;
     let served = !matches!(command, Command::Collect) && command.is_in_range();
     served && !seat.left() && seat.spare() >= room && counts
+}
+
+/// What the seat is answered to the command, where it may be called; it has room for so many entries.
+pub fn called<L: ShowsLast>(
+    seat: &mut Seat<L>,
+    command: &Command,
+    room: usize,
+) -> Result<Option<Reply>, Memory>
+    ensures { IsSameSeat seat.old seat.new }
+{
+    seat.room(room)?;
+    if !may_call(seat, command) {
+        return Ok(None);
+    }
+    Ok(Some(seat.call(command)))
 }
 
 /// Calls the seat by the command; none by a collect, which is no one call.

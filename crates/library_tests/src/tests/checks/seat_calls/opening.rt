@@ -5,7 +5,7 @@ ghost use Rattle.heap_model.specs.Heap.{IsHeap};
 ghost use Rattle.library_tests.specs.SameSeat.{IsOfTable};
 
 use collector_turns::Collector;
-use core_machine::Log;
+use core_machine::{CountsEntries, Log, ShowsLast};
 use heap_model::Heap;
 use heap_table::{CollectorHolder, HeapTable};
 use mutator_seat::Seat;
@@ -30,12 +30,15 @@ pub fn lone_seat(alloc: Global, heap: Heap) -> Result<(Seat, Collector), Fail>
 }
 
 /// The two seats of a heap that opens, and the heap's collector.
-pub fn two_seats(alloc: Global, heap: Heap) -> Result<(Seat, Seat, CollectorHolder), Fail>
+pub fn two_seats<L: ShowsLast, C: CountsEntries>(
+    alloc: Global,
+    heap: Heap,
+) -> Result<(Seat<L>, Seat<L>, CollectorHolder<L, C>), Fail>
     requires limits { IsHeap heap }
     ensures first { IfOk result (λ parties. IsOfTable parties.2 parties.0) }
     ensures second { IfOk result (λ parties. IsOfTable parties.2 parties.1) }
 {
-    let (mut holders, collector) = HeapTable::make::<Log, Log>(alloc, heap)?;
+    let (mut holders, collector) = HeapTable::make::<L, C>(alloc, heap)?;
     let Some(second) = holders.pop() else {
         return Err(Fail::new("no seat"));
     };

@@ -1,15 +1,16 @@
 //! Two seats of one table swap a field of the board in threads of their own, beside the collector's turns: what all have told goes together.
 
-ghost use Rattle.std.specs.Prelude.{◌≡◌, IfOk};
+ghost use Rattle.std.specs.Prelude.{IfOk};
 ghost use Rattle.heap_model.specs.Heap.{IsHeap};
 ghost use Rattle.library_tests.specs.SameSeat.{IsSameSeat, IsSameTable};
 
-use super::calling::may_call;
+use super::calling::called;
 use super::opening::two_seats;
 use crate::tests::comparing::{holds, same};
 use crate::tests::merges::accept;
 use crate::tests::swaps::{READ, swap};
 use crate::tests::table::close_two;
+use core_machine::Log;
 use heap_model::limits::STAMP_LIMIT;
 use heap_model::{Command, Entry, Heap, Memory, Reply, SeatCalls, Turn};
 use heap_table::{Closed, CollectorHolder};
@@ -24,41 +25,34 @@ use std::thread::{Threads, join, yield_now};
 /// How often each seat reads the field and swaps it.
 const PAIRS: usize = 1_000;
 
+/// More entries than a call here adds.
+const ROOM: usize = 100;
+
 /// More turns than are made beside that.
 const MANY: u32 = 1_000_000;
 
-/// What the seat is answered to the command, where it may be called.
-fn called(seat: &mut Seat, command: &Command) -> Result<Option<Reply>, Memory>
+/// Puts a new record into the field so often, each time where the field is as it was just read, and polls.
+fn swap_often(seat: &mut Seat) -> Result<(), Memory>
     ensures { IsSameSeat seat.old seat.new }
 {
-    seat.room(100)?;
-    if !may_call(seat, command) {
-        return Ok(None);
-    }
-    Ok(Some(seat.call(command)))
-}
-
-/// Puts a new record into the field so often, each time where the field is as it was just read, and polls.
-fn swap_often(seat: Seat) -> Result<Seat, Memory>
-    ensures { IfOk result (IsSameSeat seat) }
-{
-    let mut seat = seat;
     for _ in 0..PAIRS {
-        called(&mut seat, &Command::New { d: 1, fields: 2 })?;
-        called(&mut seat, &READ)?;
-        called(&mut seat, &swap(2))?;
-        called(&mut seat, &Command::Poll)?;
+        called(seat, &Command::New { d: 1, fields: 2 }, ROOM)?;
+        called(seat, &READ, ROOM)?;
+        called(seat, &swap(2), ROOM)?;
+        called(seat, &Command::Poll, ROOM)?;
     }
-    Ok(seat)
+    Ok(())
 }
 
 /// Swaps, and tells that one seat more is done.
 fn work(seat: Seat, done: &AtomicU64) -> Result<Seat, Memory>
     ensures { IfOk result (IsSameSeat seat) }
 {
-    let worked = swap_often(seat);
+    let mut seat = seat;
+    let worked = swap_often(&mut seat);
     done.fetch_add(1, Ordering::SeqCst);
-    worked
+    worked?;
+    Ok(seat)
 }
 
 /// Makes turns until both seats are done.
@@ -84,11 +78,11 @@ fn work_both<R: Threads>(
     first: Seat,
     second: Seat,
     done: &AtomicU64,
-) -> (Result<Seat, Memory>, Result<Seat, Memory>)
-    ensures first { IfOk result.0 (IsSameSeat first) }
-    ensures second { IfOk result.1 (IsSameSeat second) }
+) -> Result<(Seat, Seat), Memory>
+    ensures first { IfOk result (λ seats. IsSameSeat first seats.0) }
+    ensures second { IfOk result (λ seats. IsSameSeat second seats.1) }
 {
-    join(
+    let (first, second) = join(
         rt,
         move || -> Result<Seat, Memory>
             ensures { IfOk result (IsSameSeat first) }
@@ -96,39 +90,29 @@ fn work_both<R: Threads>(
         move || -> Result<Seat, Memory>
             ensures { IfOk result (IsSameSeat second) }
         { work(second, done) },
-    )
+    );
+    Ok((first?, second?))
 }
 
-/// What is left of a race.
-#[derive(Drop)]
-struct Raced {
-    first: Seat,
-    second: Seat,
-    collector: CollectorHolder,
-}
-
-/// Both seats swap, while one more thread makes the collector's turns.
+/// Both seats swap, while one more thread makes the collector's turns: the seats that are left, and the collector.
 fn race<R: Threads + Sync>(
     rt: &R,
     first: Seat,
     second: Seat,
     collector: CollectorHolder,
-) -> Result<Raced, Memory>
-    ensures first { IfOk result (λ raced. IsSameSeat first raced.first) }
-    ensures second { IfOk result (λ raced. IsSameSeat second raced.second) }
-    ensures collector { IfOk result (λ raced. IsSameTable collector raced.collector) }
+) -> Result<(Seat, Seat, CollectorHolder), Memory>
+    ensures first { IfOk result (λ raced. IsSameSeat first raced.0) }
+    ensures second { IfOk result (λ raced. IsSameSeat second raced.1) }
+    ensures collector { IfOk result (λ raced. IsSameTable collector raced.2) }
 {
     let done = AtomicU64::new(0);
-    let ((first, second), collector) = join(
+    let (seats, collector) = join(
         rt,
         || work_both(rt, first, second, &done),
         || turn_beside(collector, &done),
     );
-    Ok(Raced {
-        first: first?,
-        second: second?,
-        collector: collector?,
-    })
+    let (first, second) = seats?;
+    Ok((first, second, collector?))
 }
 
 /// How many stamps the seat has used up.
@@ -184,24 +168,29 @@ fn have_swapped(rt: &impl Abort, closed: &Closed, used: &[u32]) {
     }
 }
 
+/// The field has the stamp of the last swap of one of the seats, which leave then: how many stamps each has used up.
+fn end(rt: &impl Abort, first: &mut Seat, second: &mut Seat) -> Result<[u32; 2], Fail>
+    ensures first { IsSameSeat first.old first.new }
+    ensures second { IsSameSeat second.old second.new }
+{
+    let used = [stamps_used(first), stamps_used(second)];
+    let Some(Reply::Got { stamp, .. }) = called(first, &READ, ROOM)? else {
+        return Err("the field".into());
+    };
+    let last = is_last_of(stamp, 0, used[0]) || is_last_of(stamp, 1, used[1]);
+    holds(rt, last, &"the field's stamp");
+    called(first, &Command::Leave, ROOM)?;
+    called(second, &Command::Leave, ROOM)?;
+    Ok(used)
+}
+
 #[test]
 fn two_seats_swap_one_field(rt: HostRuntime) -> Result<(), Fail> {
     let alloc = rt.alloc();
     let heap = Heap::make(16, 0, 2, 32).ok_or("the limits")?;
-    let (first, second, collector) = two_seats(alloc, heap)?;
-    let Raced {
-        mut first,
-        mut second,
-        collector,
-    } = race(&rt, first, second, collector)?;
-    let used = [stamps_used(&first), stamps_used(&second)];
-    let Some(Reply::Got { stamp, .. }) = called(&mut first, &READ)? else {
-        return Err("the field".into());
-    };
-    let last = is_last_of(stamp, 0, used[0]) || is_last_of(stamp, 1, used[1]);
-    holds(&rt, last, &"the field's stamp");
-    called(&mut first, &Command::Leave)?;
-    called(&mut second, &Command::Leave)?;
+    let (first, second, collector) = two_seats::<Log, Log>(alloc, heap)?;
+    let (mut first, mut second, collector) = race(&rt, first, second, collector)?;
+    let used = end(&rt, &mut first, &mut second)?;
     let (first, second) = (first.into_holder(), second.into_holder());
     let Some(closed) = close_two(alloc, collector, first, second)? else {
         return Err("a seat hasn't left".into());

@@ -1,15 +1,15 @@
 //! The same calls and turns on a heap whose logs are kept and on one without logs: each is answered alike, and closing leaves the same words.
 
-ghost use Rattle.std.specs.Prelude.{◌≡◌, IfOk, IfSome};
+ghost use Rattle.std.specs.Prelude.{IfOk};
 ghost use Rattle.heap_model.specs.Heap.{IsHeap};
-ghost use Rattle.heap_table.specs.Folded.{AllFolded};
 ghost use Rattle.library_tests.specs.SameSeat.{IsOfTable, IsSameSeat, IsSameTable};
 
-use super::calling::may_call;
+use super::calling::called;
+use super::opening::two_seats;
 use crate::tests::comparing::{holds, same};
 use core_machine::{CountedLog, CountsEntries, LastLog, Log, ShowsLast};
-use heap_model::{Command, Heap, Memory, Reply, SeatCalls, Turn};
-use heap_table::{CollectorHolder, HeapTable};
+use heap_model::{Command, Heap, Memory, Reply, Turn};
+use heap_table::{Closed, ClosedWords, CollectorHolder};
 use mutator_seat::Seat;
 use script_text::{Line, make_script};
 use std::alloc::Global;
@@ -21,47 +21,11 @@ const LINES: u32 = 1_000;
 
 const TURNS: u8 = 3;
 
-/// The two seats of a heap, its collector, and what they have answered so far.
+/// What seats and a collector have answered so far.
 #[derive(Drop)]
-struct Parties<L: ShowsLast, C: CountsEntries> {
-    first: Seat<L>,
-    second: Seat<L>,
-    collector: CollectorHolder<L, C>,
+struct Answers {
     replies: Vec<Option<Reply>>,
     turns: Vec<Turn>,
-    ghost first_is_of_table: { IsOfTable collector first },
-    ghost second_is_of_table: { IsOfTable collector second },
-}
-
-/// The parties of a heap that opens.
-fn open<L: ShowsLast, C: CountsEntries>(alloc: Global, heap: Heap) -> Result<Parties<L, C>, Fail>
-    requires { IsHeap heap }
-{
-    let (mut holders, collector) = HeapTable::make::<L, C>(alloc, heap)?;
-    let Some(second) = holders.pop() else {
-        return Err(Fail::new("no seat"));
-    };
-    let Some(first) = holders.pop() else {
-        return Err(Fail::new("one seat"));
-    };
-    Ok(Parties {
-        first: Seat::make(first),
-        second: Seat::make(second),
-        collector,
-        replies: Vec::new(alloc),
-        turns: Vec::new(alloc),
-    })
-}
-
-/// What the seat is answered to the command, where it may be called; it has room for what it tells.
-fn called<L: ShowsLast>(seat: &mut Seat<L>, command: &Command) -> Result<Option<Reply>, Memory>
-    ensures { IsSameSeat seat.old seat.new }
-{
-    seat.room(2 * command.need() as usize + 4)?;
-    if !may_call(seat, command) {
-        return Ok(None);
-    }
-    Ok(Some(seat.call(command)))
 }
 
 /// Makes the turns, and keeps what each answers.
@@ -89,51 +53,67 @@ fn reply_of<L: ShowsLast>(
     ensures first { IsSameSeat first.old first.new }
     ensures second { IsSameSeat second.old second.new }
 {
+    let room = 2 * command.need() as usize + 4;
     if is_first {
-        called(first, command)
+        called(first, command, room)
     } else {
-        called(second, command)
+        called(second, command, room)
     }
 }
 
-impl<L: ShowsLast, C: CountsEntries> Parties<L, C> {
-    /// The one seat or the other is called so, and then the turns are made.
-    fn call(self, is_first: bool, command: &Command) -> Result<Parties<L, C>, Memory> {
-        let Parties {
-            mut first,
-            mut second,
-            mut collector,
-            mut replies,
-            mut turns,
-        } = self;
-        replies.push(reply_of(&mut first, &mut second, is_first, command)?)?;
-        turned(&mut collector, &mut turns)?;
-        Ok(Parties {
-            first,
-            second,
-            collector,
-            replies,
-            turns,
-        })
-    }
-}
-
-/// The parties once a heap of them has played the script's calls, and both seats have left.
-fn played<L: ShowsLast, C: CountsEntries>(
-    alloc: Global,
-    heap: Heap,
-    lines: &[Line],
-) -> Result<Parties<L, C>, Fail>
-    requires { IsHeap heap }
+/// The one seat or the other is called so, and then the turns are made.
+fn go_on<L: ShowsLast, C: CountsEntries>(
+    first: &mut Seat<L>,
+    second: &mut Seat<L>,
+    collector: &mut CollectorHolder<L, C>,
+    is_first: bool,
+    command: &Command,
+    answers: &mut Answers,
+) -> Result<(), Memory>
+    ensures first { IsSameSeat first.old first.new }
+    ensures second { IsSameSeat second.old second.new }
+    ensures collector { IsSameTable collector.old collector.new }
 {
-    let mut parties = open::<L, C>(alloc, heap)?;
+    let reply = reply_of(first, second, is_first, command)?;
+    answers.replies.push(reply)?;
+    turned(collector, &mut answers.turns)
+}
+
+/// The script's calls are made.
+fn play<L: ShowsLast, C: CountsEntries>(
+    first: &mut Seat<L>,
+    second: &mut Seat<L>,
+    collector: &mut CollectorHolder<L, C>,
+    lines: &[Line],
+    answers: &mut Answers,
+) -> Result<(), Memory>
+    ensures first { IsSameSeat first.old first.new }
+    ensures second { IsSameSeat second.old second.new }
+    ensures collector { IsSameTable collector.old collector.new }
+{
     for line in lines {
-        if let Line::Seat { seat, command } = *line {
-            parties = parties.call(seat == 0, &command)?;
+        if let Line::Seat { seat, command } = line {
+            go_on(first, second, collector, *seat == 0, command, answers)?;
         }
     }
-    parties = parties.call(true, &Command::Leave)?;
-    Ok(parties.call(false, &Command::Leave)?)
+    Ok(())
+}
+
+/// The script's calls are made, and both seats leave.
+fn play_out<L: ShowsLast, C: CountsEntries>(
+    first: &mut Seat<L>,
+    second: &mut Seat<L>,
+    collector: &mut CollectorHolder<L, C>,
+    lines: &[Line],
+    answers: &mut Answers,
+) -> Result<(), Memory>
+    ensures first { IsSameSeat first.old first.new }
+    ensures second { IsSameSeat second.old second.new }
+    ensures collector { IsSameTable collector.old collector.new }
+{
+    play(first, second, collector, lines, answers)?;
+    go_on(first, second, collector, true, &Command::Leave, answers)?;
+    go_on(first, second, collector, false, &Command::Leave, answers)
 }
 
 /// Folds the seat in, where it has left.
@@ -147,23 +127,21 @@ fn fold<L: ShowsLast, C: CountsEntries>(collector: &mut CollectorHolder<L, C>, s
     }
 }
 
-/// The collector once it has taken in both seats; none where one hasn't left.
-fn folded<L: ShowsLast, C: CountsEntries>(parties: Parties<L, C>) -> Option<CollectorHolder<L, C>>
-    ensures { IfSome result (λ collector. AllFolded collector.heap collector.known.seats) }
+/// The collector of a heap of two seats that opens, once they have played the script's calls and it has taken in both.
+fn played<L: ShowsLast, C: CountsEntries>(
+    alloc: Global,
+    heap: Heap,
+    lines: &[Line],
+    answers: &mut Answers,
+) -> Result<CollectorHolder<L, C>, Fail>
+    requires { IsHeap heap }
 {
-    let Parties {
-        first,
-        second,
-        mut collector,
-        ..
-    } = parties;
+    let (mut first, mut second, mut collector) = two_seats::<L, C>(alloc, heap)?;
+    let end = play_out(&mut first, &mut second, &mut collector, lines, answers);
     fold(&mut collector, first);
     fold(&mut collector, second);
-    if collector.all_folded() {
-        Some(collector)
-    } else {
-        None
-    }
+    end?;
+    Ok(collector)
 }
 
 /// Whether a call found too little space.
@@ -177,12 +155,7 @@ fn have_ended(turns: &[Turn]) -> bool {
 }
 
 /// Both kinds have answered alike, and among the replies and the turns stands what these scripts are to bring.
-fn answer_alike(
-    rt: &impl Abort,
-    kept: &Parties<Log, Log>,
-    told: &Parties<LastLog, CountedLog>,
-    start: u32,
-) {
+fn answer_alike(rt: &impl Abort, kept: &Answers, told: &Answers, start: u32) {
     let (replies, turns) = (told.replies.as_slice(), told.turns.as_slice());
     same(rt, &replies, &kept.replies.as_slice(), &start);
     same(rt, &turns, &kept.turns.as_slice(), &start);
@@ -190,24 +163,31 @@ fn answer_alike(
     holds(rt, have_ended(turns), &start);
 }
 
-/// Closing leaves the same words, and as many that were folded in.
-fn close_alike(
-    rt: &impl Abort,
-    alloc: Global,
-    kept: Parties<Log, Log>,
-    told: Parties<LastLog, CountedLog>,
-    start: u32,
-) -> Result<(), Fail> {
-    let kept = folded(kept).ok_or("a seat hasn't left")?;
-    let told = folded(told).ok_or("a seat hasn't left")?;
-    let closed = kept.close(alloc).map_err(|_| Memory)?;
-    let bare = told.close_told(alloc).map_err(|_| Memory)?;
-    same(rt, &bare.words(), &closed.words(), &start);
-    same(rt, &bare.folded(), &closed.folded(), &start);
-    Ok(())
+/// What closing leaves where the logs are kept.
+fn closed(rt: &impl Abort, alloc: Global, collector: CollectorHolder) -> Result<Closed, Memory> {
+    holds(rt, collector.all_folded(), &"a seat that was to leave");
+    collector.close(alloc).map_err(|_| Memory)
 }
 
-/// Plays the lines on a heap of either kind, and compares the replies, the turns, and what closing leaves.
+/// What closing leaves where there are no logs.
+fn closed_told(
+    rt: &impl Abort,
+    alloc: Global,
+    collector: CollectorHolder<LastLog, CountedLog>,
+) -> Result<ClosedWords, Memory> {
+    holds(rt, collector.all_folded(), &"a seat that was to leave");
+    collector.close_told(alloc).map_err(|_| Memory)
+}
+
+/// Nothing was answered yet.
+fn no_answers(alloc: Global) -> Answers {
+    Answers {
+        replies: Vec::new(alloc),
+        turns: Vec::new(alloc),
+    }
+}
+
+/// Plays the lines on a heap of either kind, and compares the replies, the turns, and what closing leaves: the same words, and as many that were folded in.
 fn compare(
     rt: &impl Abort,
     alloc: Global,
@@ -217,10 +197,15 @@ fn compare(
 ) -> Result<(), Fail>
     requires { IsHeap heap }
 {
-    let kept = played::<Log, Log>(alloc, heap, lines)?;
-    let told = played::<LastLog, CountedLog>(alloc, heap, lines)?;
+    let (mut kept, mut told) = (no_answers(alloc), no_answers(alloc));
+    let collector = played::<Log, Log>(alloc, heap, lines, &mut kept)?;
+    let closed = closed(rt, alloc, collector)?;
+    let collector = played::<LastLog, CountedLog>(alloc, heap, lines, &mut told)?;
+    let bare = closed_told(rt, alloc, collector)?;
     answer_alike(rt, &kept, &told, start);
-    close_alike(rt, alloc, kept, told, start)
+    same(rt, &bare.words(), &closed.words(), &start);
+    same(rt, &bare.folded(), &closed.folded(), &start);
+    Ok(())
 }
 
 /// The heap of both kinds.
