@@ -1,5 +1,5 @@
 -- A seat that is as at the opening is between two calls.
-use Rattle.std.proofs.Common.{◌≡◌, ◌<◌, arith, All, ap, sym, subst}
+use Rattle.std.proofs.Common.{◌≡◌, arith, All, ap, sym, subst}
 use Rattle.std.proofs.lemmas.List.Elements.{All-nil}
 use Rattle.heap_model.specs.calls.SeatLaws.{IsOwn}
 use Rattle.heap_model.specs.declared.heap.Heap.{Heap}

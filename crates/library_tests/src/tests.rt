@@ -1,6 +1,7 @@
 //! What the libraries up to space_plan answer to their public calls.
 
 mod boards;
+mod books;
 mod call_steps;
 mod checks;
 mod comparing;
@@ -10,6 +11,7 @@ mod histories;
 mod interleavings;
 mod machine;
 mod merges;
+mod opening;
 mod paces;
 mod plans;
 mod scripts;

@@ -14,11 +14,10 @@ use super::comparing::same;
 use arrayvec::ArrayVec;
 use core_machine::Log;
 use frag_claim::{Hand, Reserve, gather};
-use heap_model::{Command, Entry, Full, Heap, Id, Memory};
+use heap_model::{Command, Full, Heap, Id, Memory};
 use heap_table::{HeapTable, Holder};
 use object_chain::bear_record;
 use std::alloc::Global;
-use std::fmt::Debug;
 use std::process::Abort;
 use std::test::Fail;
 
@@ -73,12 +72,6 @@ fn takes_in_vain(
     refusal: &str,
 ) -> Result<(), Fail> {
     tells(rt, alloc, holder, &["0 takes 5", "0 gives back 5", refusal])
-}
-
-/// The seat's first object was made.
-fn is_the_first<E: PartialEq + Debug + Drop>(rt: &impl Abort, made: &Option<Result<Id, E>>) {
-    let first = Id::Made { seat: 0, count: 0 };
-    same(rt, made, &Some(Ok(first)), &"the id");
 }
 
 /// The hand has these fragments.

@@ -13,6 +13,7 @@ use heap_model::{Command, Entry, Graph, Heap, Memory, Reply, Value};
 use log_merge::merge;
 use reply_text::read_history;
 use std::alloc::Global;
+use std::process::Abort;
 use std::test::Fail;
 
 // The entries of the seat.
@@ -92,13 +93,24 @@ const MERGED: [(&str, &str); 3] = [
     ),
 ];
 
+// What the logs of the run come to that the text is.
+fn merged_run(alloc: Global, text: &str) -> Result<Vec<Entry>, Fail> {
+    let run = read_history(alloc, text.as_bytes())?;
+    merged(alloc, run.heap, run.entries.as_slice())
+}
+
+// The run that is given comes to the one that is wanted.
+fn comes_to(rt: &(impl Abort + AllocGlobal), given: &str, wanted: &str) -> Result<(), Fail> {
+    let found = merged_run(rt.alloc(), given)?;
+    let history = read_history(rt.alloc(), wanted.as_bytes())?;
+    same(rt, &found.as_slice(), &history.entries.as_slice(), &given);
+    Ok(())
+}
+
 #[test]
 fn puts_first_what_is_ready(rt: HostRuntime) -> Result<(), Fail> {
     for (given, wanted) in MERGED {
-        let history = read_history(rt.alloc(), wanted.as_bytes())?;
-        let run = read_history(rt.alloc(), given.as_bytes())?;
-        let found = merged(rt.alloc(), run.heap, run.entries.as_slice())?;
-        same(&rt, &found.as_slice(), &history.entries.as_slice(), &given);
+        comes_to(&rt, given, wanted)?;
     }
     Ok(())
 }
@@ -147,7 +159,7 @@ fn swaps() -> [([Entry; 6], [Entry; 6]); 2] {
 #[test]
 fn puts_a_cas_that_left_the_field_first(rt: HostRuntime) -> Result<(), Fail> {
     let heap = Heap::make(1, 0, 2, 32).ok_or("the limits")?;
-    for (given, wanted) in swaps() {
+    for (given, wanted) in &swaps() {
         let found = merged(rt.alloc(), heap, given.as_slice())?;
         same(&rt, &found.as_slice(), &wanted.as_slice(), &"a cas");
     }

@@ -1,14 +1,15 @@
 //! The table that threads share: two seats work in threads of their own, and when all is closed what they have told goes together.
 
-ghost use Rattle.std.specs.Prelude.{◌≡◌, IfOk, IfSome};
+ghost use Rattle.std.specs.Prelude.{IfOk, IfSome};
 ghost use Rattle.heap_model.specs.Heap.{IsHeap};
 ghost use Rattle.library_tests.specs.SameSeat.{IsOfTable, IsSameSeat, IsSameTable};
 
 use super::call_steps::make_long_record;
 use super::comparing::same;
+use super::opening::two_seats;
 use core_machine::Log;
 use heap_model::{Command, Entry, Heap, Memory, Reply};
-use heap_table::{Closed, CollectorHolder, HeapTable, Holder};
+use heap_table::{Closed, CollectorHolder, Holder};
 use std::alloc::Global;
 use std::test::Fail;
 use std::thread::{Threads, join};
@@ -144,20 +145,13 @@ pub(super) fn run_two<R: Threads>(
     alloc: Global,
     heap: Heap,
     task: Task,
-) -> Result<Option<Closed>, Memory>
+) -> Result<Option<Closed>, Fail>
     requires { IsHeap heap }
 {
-    let (mut holders, collector) = HeapTable::make::<Log, Log>(alloc, heap)?;
-    let Some(second) = holders.pop() else {
-        return Ok(None);
-    };
-    let Some(first) = holders.pop() else {
-        return Ok(None);
-    };
+    let (first, second, collector) = two_seats::<Log, Log>(alloc, heap)?;
+    let (first, second) = (first.into_holder(), second.into_holder());
     let (one, other) = in_two_threads(rt, first, second, task);
-    let one = one?;
-    let other = other?;
-    close_two(alloc, collector, one, other)
+    Ok(close_two(alloc, collector, one?, other?)?)
 }
 
 /// How many objects the logs tell to be made.

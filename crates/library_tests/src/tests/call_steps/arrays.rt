@@ -6,10 +6,10 @@ ghost use Rattle.heap_model.specs.Needs.{spine_need_of};
 ghost use Rattle.core_machine.specs.declared.point.Making.TheVariants.{Refusing};
 ghost use Rattle.core_machine.specs.declared.point.Point.TheVariants.{Making};
 
-use super::{has, is_the_first, kept, lone_seat, no_fragments, takes_in_vain, tells};
+use super::{has, kept, lone_seat, no_fragments, takes_in_vain, tells};
 use crate::tests::comparing::same;
 use array_spine::{Budget, SpineFull, bear_array, cell_at, drop_budget, take_budget};
-use core_machine::{Access, AccessStep, Step};
+use core_machine::Access;
 use frag_claim::{Hand, gather};
 use heap_model::{Command, Entry, Id, Memory};
 use heap_table::Holder;
@@ -98,76 +98,80 @@ fn reach_cell(holder: &mut Holder, cell: u16) -> Result<Option<Place>, Memory> {
     Ok(Some(cell_at(holder, sentinel, cell)))
 }
 
-/// What came of the first array of a seat that is alone.
-#[derive(Drop)]
-struct Tried {
-    holder: Holder,
-    hand: Hand,
-    made: Option<Result<Id, SpineFull>>,
-}
-
-/// The seat of a heap of so many groups and spine words tries to make an array.
-fn attempt(alloc: Global, sizes: (u16, u16), cells: u16, words: u16) -> Result<Tried, Fail>
+/// The seat tries to make an array of so many cells and spine words: this comes of it, and these fragments are in hand.
+fn tries(
+    rt: &impl Abort,
+    holder: &mut Holder,
+    cells: u16,
+    words: u16,
+    wanted: &Option<Result<Id, SpineFull>>,
+    fragments: &[u16],
+) -> Result<(), Memory>
     requires words { spine_need_of (Array 1 cells) ≡ words }
     requires few { words ≤ 1024 }
 {
-    let (groups, spine) = sizes;
-    let mut holder = lone_seat(alloc, groups, spine)?;
     let mut hand = no_fragments();
-    let made = make_array(&mut holder, &mut hand, cells, words)?;
-    Ok(Tried { holder, hand, made })
+    let made = make_array(holder, &mut hand, cells, words)?;
+    same(rt, &made, wanted, &cells);
+    has(rt, &hand, fragments);
+    Ok(())
 }
+
+/// The array is the seat's first object.
+const MADE: Option<Result<Id, SpineFull>> = Some(Ok(Id::Made { seat: 0, count: 0 }));
 
 /// So many spine words are refused, where so many are in use.
-fn lacks_words(rt: &impl Abort, made: &Option<Result<Id, SpineFull>>, need: u32, used: u32) {
-    let refusal = Some(Err(SpineFull { need, used }));
-    same(rt, made, &refusal, &"the refusal");
+fn lacks_words(need: u32, used: u32) -> Option<Result<Id, SpineFull>> {
+    Some(Err(SpineFull { need, used }))
 }
 
-/// The array gets the five free fragments of the first group and all four spine words: the next asks for one in vain.
-#[test]
-fn the_second_array_has_no_spine_words(rt: HostRuntime) -> Result<(), Fail> {
-    let Tried {
-        mut holder,
-        hand,
-        made,
-    } = attempt(rt.alloc(), (2, 4), 16, 4)?;
-    is_the_first(&rt, &made);
-    has(&rt, &hand, &[11, 12, 13, 14, 15]);
-    let again = make_array(&mut holder, &mut no_fragments(), 1, 1)?;
-    lacks_words(&rt, &again, 1, 4);
+/// The first fragments that the board leaves free.
+const FREE: [u16; 5] = [11, 12, 13, 14, 15];
+
+fn makes_one(rt: &impl Abort, alloc: Global, holder: &mut Holder) -> Result<(), Fail> {
+    tries(rt, holder, 16, 4, &MADE, &FREE)?;
+    tries(rt, holder, 1, 1, &lacks_words(1, 4), &[])?;
     let lines = [
         "0 takes 5",
         "0 array 1 16 = 0.0",
         "0 array 1 1 = spine need 1 used 4",
     ];
-    tells(&rt, rt.alloc(), &holder, &lines)
+    tells(rt, alloc, holder, &lines)
+}
+
+/// The array gets the five free fragments of the first group and all four spine words: the next asks for one in vain.
+#[test]
+fn the_second_array_has_no_spine_words(rt: HostRuntime) -> Result<(), Fail> {
+    let mut holder = lone_seat(rt.alloc(), 2, 4)?;
+    makes_one(&rt, rt.alloc(), &mut holder)
+}
+
+fn makes_none(rt: &impl Abort, alloc: Global, holder: &mut Holder) -> Result<(), Fail> {
+    tries(rt, holder, 4, 1, &lacks_words(1, 0), &[])?;
+    let refusal = "0 array 1 4 = spine need 1 used 0";
+    tells(rt, alloc, holder, &[refusal])
 }
 
 /// A heap without spine words refuses every array.
 #[test]
 fn no_array_without_spine_words(rt: HostRuntime) -> Result<(), Fail> {
-    let Tried { holder, hand, made } = attempt(rt.alloc(), (2, 0), 4, 1)?;
-    lacks_words(&rt, &made, 1, 0);
-    has(&rt, &hand, &[]);
-    let refusal = "0 array 1 4 = spine need 1 used 0";
-    tells(&rt, rt.alloc(), &holder, &[refusal])
+    let mut holder = lone_seat(rt.alloc(), 2, 0)?;
+    makes_none(&rt, rt.alloc(), &mut holder)
+}
+
+fn makes_a_smaller_one(rt: &impl Abort, alloc: Global, holder: &mut Holder) -> Result<(), Fail> {
+    tries(rt, holder, 20, 5, &None, &[])?;
+    let refusal = "0 array 1 20 = full need 6 found 5";
+    takes_in_vain(rt, alloc, holder, refusal)?;
+    tries(rt, holder, 16, 4, &MADE, &FREE)?;
+    Ok(())
 }
 
 /// An array of twenty cells has six fragments, of which five are free: its five spine words are taken back, so that four of the eight are granted afterwards.
 #[test]
 fn an_array_without_fragments_gives_its_words_back(rt: HostRuntime) -> Result<(), Fail> {
-    let Tried {
-        mut holder,
-        made,
-        ..
-    } = attempt(rt.alloc(), (1, 8), 20, 5)?;
-    same(&rt, &made, &None, &"the refusal");
-    let refusal = "0 array 1 20 = full need 6 found 5";
-    takes_in_vain(&rt, rt.alloc(), &holder, refusal)?;
-    let again = make_array(&mut holder, &mut no_fragments(), 16, 4)?;
-    is_the_first(&rt, &again);
-    Ok(())
+    let mut holder = lone_seat(rt.alloc(), 1, 8)?;
+    makes_a_smaller_one(&rt, rt.alloc(), &mut holder)
 }
 
 /// How often the seat took sixteen fragments.
@@ -176,33 +180,31 @@ fn whole_groups(holder: &Holder) -> usize {
     holder.log().iter().filter(|entry| **entry == takes).count()
 }
 
+fn makes_the_largest(rt: &impl Abort, holder: &mut Holder) -> Result<(), Memory> {
+    let made = make_array(holder, &mut no_fragments(), 4096, 1024)?;
+    same(rt, &made, &MADE, &"the largest");
+    let counts = (holder.log().len(), whole_groups(holder));
+    same(rt, &counts, &(66, 64), &"the entries, and the whole groups");
+    Ok(())
+}
+
+fn reaches_its_last_cell(rt: &impl Abort, holder: &mut Holder) -> Result<(), Memory> {
+    let last = Place {
+        fragment: 1035,
+        part: 3,
+    };
+    let found = reach_cell(holder, 4095)?;
+    same(rt, &found, &Some(last), &"the last cell");
+    let first = reach_cell(holder, 0)?;
+    same(rt, &first, &None, &"a get before the last one is over");
+    Ok(())
+}
+
 /// The largest array has 1,025 fragments: five of the first group and sixteen of each of 64 more, of which the last gives four to the reserve.
 #[test]
 fn the_largest_array_is_reached(rt: HostRuntime) -> Result<(), Fail> {
-    let Tried {
-        mut holder,
-        made,
-        ..
-    } = attempt(rt.alloc(), (66, 1024), 4096, 1024)?;
-    is_the_first(&rt, &made);
-    let counts = (holder.log().len(), whole_groups(&holder));
-    same(
-        &rt,
-        &counts,
-        &(66, 64),
-        &"the entries, and the whole groups",
-    );
-    let last = Some(Place {
-        fragment: 1035,
-        part: 3,
-    });
-    same(
-        &rt,
-        &reach_cell(&mut holder, 4095)?,
-        &last,
-        &"the last cell",
-    );
-    let first = reach_cell(&mut holder, 0)?;
-    same(&rt, &first, &None, &"a get before the last one is over");
+    let mut holder = lone_seat(rt.alloc(), 66, 1024)?;
+    makes_the_largest(&rt, &mut holder)?;
+    reaches_its_last_cell(&rt, &mut holder)?;
     Ok(())
 }

@@ -1,6 +1,6 @@
 //! A record of many fields is made and its last field is reached, and one is refused.
 
-use super::{has, is_the_first, lone_seat, make_record, no_fragments, takes_in_vain, tells};
+use super::{has, lone_seat, make_record, no_fragments, takes_in_vain, tells};
 use crate::tests::comparing::same;
 use core_machine::{Access, AccessStep, Step};
 use frag_claim::Hand;
@@ -48,20 +48,18 @@ fn reach_field(holder: &mut Holder, field: u16) -> Result<Option<Place>, Memory>
     Ok(Some(walk(holder, head, meta, field)))
 }
 
-/// What came of the record of forty-seven fields that a seat alone tried to make.
-#[derive(Drop)]
-struct Tried {
-    holder: Holder,
-    hand: Hand,
-    made: Option<Result<Id, Full>>,
-}
-
-/// The seat of a heap of so many groups tries to make it.
-fn attempt(alloc: Global, groups: u16) -> Result<Tried, Fail> {
-    let mut holder = lone_seat(alloc, groups, 0)?;
+/// The seat tries to make a record of forty-seven fields: this comes of it, and these fragments are in hand.
+fn tries(
+    rt: &impl Abort,
+    holder: &mut Holder,
+    wanted: Result<Id, Full>,
+    fragments: &[u16],
+) -> Result<(), Memory> {
     let mut hand = no_fragments();
-    let made = make_record(&mut holder, &mut hand, 47, 16)?;
-    Ok(Tried { holder, hand, made })
+    let made = make_record(holder, &mut hand, 47, 16)?;
+    same(rt, &made, &Some(wanted), &"the record");
+    has(rt, &hand, fragments);
+    Ok(())
 }
 
 /// The seat keeps these fragments.
@@ -75,42 +73,45 @@ const GATHERED: [u16; 16] = [
     11, 12, 13, 14, 15, 16, 17, 18, 19, 20, 21, 22, 23, 24, 25, 26,
 ];
 
-/// The board has fragments 0 to 10, so a seat that begins at group 0 gets 11 to 15 there, and the next group's sixteen.
-#[test]
-fn a_long_record_is_made(rt: HostRuntime) -> Result<(), Fail> {
-    let Tried {
-        mut holder,
-        hand,
-        made,
-    } = attempt(rt.alloc(), 4)?;
-    is_the_first(&rt, &made);
-    has(&rt, &hand, &GATHERED);
-    keeps(&rt, &holder, &[27, 28, 29, 30, 31]);
-    same(&rt, &holder.party().cursor(), &1, &"the cursor");
+fn makes_it(rt: &impl Abort, alloc: Global, holder: &mut Holder) -> Result<(), Fail> {
+    let first = Id::Made { seat: 0, count: 0 };
+    tries(rt, holder, Ok(first), &GATHERED)?;
+    keeps(rt, holder, &[27, 28, 29, 30, 31]);
+    same(rt, &holder.party().cursor(), &1, &"the cursor");
     let lines = ["0 takes 5", "0 takes 16", "0 new 1 47 = 0.0"];
-    tells(&rt, rt.alloc(), &holder, &lines)?;
-    // Behind the head's two fields each chain fragment has three, so the last is in the fifteenth, which comes behind the head.
-    let last = Some(Place {
+    tells(rt, alloc, holder, &lines)
+}
+
+fn reaches_its_last_field(rt: &impl Abort, holder: &mut Holder) -> Result<(), Memory> {
+    let last = Place {
         fragment: 26,
         part: 3,
-    });
-    same(
-        &rt,
-        &reach_field(&mut holder, 46)?,
-        &last,
-        &"the last field",
-    );
+    };
+    let found = reach_field(holder, 46)?;
+    same(rt, &found, &Some(last), &"the last field");
     Ok(())
+}
+
+/// The board has fragments 0 to 10, so a seat that begins at group 0 gets 11 to 15 there, and the next group's sixteen. Behind the head's two fields each
+/// chain fragment has three, so the last is in the fifteenth, which comes behind the head.
+#[test]
+fn a_long_record_is_made(rt: HostRuntime) -> Result<(), Fail> {
+    let mut holder = lone_seat(rt.alloc(), 4, 0)?;
+    makes_it(&rt, rt.alloc(), &mut holder)?;
+    reaches_its_last_field(&rt, &mut holder)?;
+    Ok(())
+}
+
+fn is_refused(rt: &impl Abort, alloc: Global, holder: &mut Holder) -> Result<(), Fail> {
+    tries(rt, holder, Err(Full { need: 16, found: 5 }), &[])?;
+    keeps(rt, holder, &[]);
+    let told = "0 new 1 47 = full need 16 found 5";
+    takes_in_vain(rt, alloc, holder, told)
 }
 
 /// Five fragments of the one group are free, and sixteen are needed.
 #[test]
 fn a_long_record_is_refused(rt: HostRuntime) -> Result<(), Fail> {
-    let Tried { holder, hand, made } = attempt(rt.alloc(), 1)?;
-    let refusal = Some(Err(Full { need: 16, found: 5 }));
-    same(&rt, &made, &refusal, &"the refusal");
-    has(&rt, &hand, &[]);
-    keeps(&rt, &holder, &[]);
-    let told = "0 new 1 47 = full need 16 found 5";
-    takes_in_vain(&rt, rt.alloc(), &holder, told)
+    let mut holder = lone_seat(rt.alloc(), 1, 0)?;
+    is_refused(&rt, rt.alloc(), &mut holder)
 }

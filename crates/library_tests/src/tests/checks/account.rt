@@ -1,8 +1,11 @@
 //! Entries that an account accepts or refuses, in a play and in a run.
 
+ghost use Rattle.heap_model.specs.Heap.{IsHeap};
+
 use super::entry_of;
 use crate::tests::comparing::{holds, same};
 use heap_model::{Account, ApplyFault, Graph, Heap};
+use std::process::Abort;
 use std::test::Fail;
 
 /// An entry, whether it stands in a play or in a run, and whether it may stand after those above that may. The heap has
@@ -110,28 +113,54 @@ const ENTRIES: &[&str] = &[
     "c ends 1 kept 11 => play, legal",
 ];
 
+/// What an account answers to an entry with this verdict.
+fn answer_of(verdict: &str) -> Result<(), ApplyFault> {
+    if verdict.ends_with(", legal") {
+        Ok(())
+    } else {
+        Err(ApplyFault::NotLegal)
+    }
+}
+
+/// The account accepts the entry exactly if it may stand; then both books count it.
+fn judges(
+    rt: &(impl Abort + AllocGlobal),
+    graph: &mut Graph,
+    account: &mut Account,
+    line: &str,
+) -> Result<(), Fail> {
+    let (line, verdict) = line.split_once(" => ").ok_or("an entry has a verdict")?;
+    let entry = entry_of(rt.alloc(), line)?;
+    holds(rt, account.entries() < 1 << 32, &line);
+    holds(rt, account.has_seat(&entry), &line);
+    let given = account.apply(graph, &entry, verdict.starts_with("play"));
+    same(rt, &given, &answer_of(verdict), &line);
+    if given.is_ok() {
+        graph.apply(&entry)?;
+    }
+    Ok(())
+}
+
+/// All entries are counted so.
+fn judges_all(
+    rt: &(impl Abort + AllocGlobal),
+    heap: Heap,
+    account: &mut Account,
+) -> Result<(), Fail>
+    requires { IsHeap heap }
+{
+    let mut graph = Graph::new(rt.alloc(), heap)?;
+    for line in ENTRIES {
+        judges(rt, &mut graph, account, line)?;
+    }
+    Ok(())
+}
+
 #[test]
 fn accepts_what_keeps_the_rules(rt: HostRuntime) -> Result<(), Fail> {
-    let alloc = rt.alloc();
     let heap = Heap::make(2, 4, 2, 32).ok_or("the limits")?;
-    let mut graph = Graph::new(alloc, heap)?;
-    let mut account = Account::new(alloc, heap)?;
-    for line in ENTRIES {
-        let (line, verdict) = line.split_once(" => ").ok_or("an entry has a verdict")?;
-        let entry = entry_of(alloc, line)?;
-        let wanted = if verdict.ends_with(", legal") {
-            Ok(())
-        } else {
-            Err(ApplyFault::NotLegal)
-        };
-        holds(&rt, account.entries() < 1 << 32, &line);
-        holds(&rt, account.has_seat(&entry), &line);
-        let given = account.apply(&graph, &entry, verdict.starts_with("play"));
-        same(&rt, &given, &wanted, &line);
-        if wanted.is_ok() {
-            graph.apply(&entry)?;
-        }
-    }
+    let mut account = Account::new(rt.alloc(), heap)?;
+    judges_all(&rt, heap, &mut account)?;
     same(&rt, &account.used(), &11, &"the fragments in use");
     same(&rt, &account.spine(), &0, &"the spine words in use");
     same(&rt, &account.phase(), &14, &"the phase");

@@ -2,105 +2,17 @@
 
 use super::entry_of;
 use crate::tests::comparing::{holds, same};
-use heap_model::Command::{self, Array, Cas, Collect, Get, Leave, Len, New, Num, Poll, Set};
-use heap_model::Reply::{self, Cycle, Done, Got, Made, NoObject, SpineFull, Was, Yes};
-use heap_model::{ApplyFault, Entry, Graph, Heap, Id, Value};
+use heap_model::{ApplyFault, Graph, Heap, Id, Value};
+use std::alloc::Global;
 use std::process::Abort;
 use std::test::Fail;
 
 mod reach;
 mod seen;
 mod swaps;
+mod unwritten;
 
 const FIRST: Id = Id::Made { seat: 0, count: 0 };
-
-const NO_SPINE: Reply = SpineFull { need: 12, used: 0 };
-
-// No set gives the stamp 1.
-const NIL_LATER: Reply = Got {
-    value: Value::Nil,
-    stamp: 1,
-};
-
-/// A command out of its range, or a reply that it can't have. No history has such a line. With another reply, or in its
-/// range, each may stand first.
-const UNWRITTEN: [(Command, Reply); 22] = [
-    (New { d: 1, fields: 2 }, Done),
-    (New { d: 0, fields: 2 }, Made(FIRST)),
-    (New { d: 16, fields: 2 }, Made(FIRST)),
-    (New { d: 1, fields: 0 }, Made(FIRST)),
-    (New { d: 1, fields: 48 }, Made(FIRST)),
-    (New { d: 2, fields: 47 }, NO_SPINE),
-    (Array { d: 2, cells: 4097 }, NO_SPINE),
-    (Get { d: 4, r: 0, i: 0 }, NIL_LATER),
-    (
-        Get {
-            d: 4,
-            r: 3,
-            i: 4097,
-        },
-        NoObject,
-    ),
-    (Set { r: 0, i: 0, v: 3 }, Done),
-    (Set { r: 0, i: 0, v: 3 }, Was(1)),
-    (
-        Num {
-            d: 3,
-            n: 1073741824,
-        },
-        Done,
-    ),
-    (Num { d: 3, n: 7 }, Yes),
-    (Len { r: 16 }, NoObject),
-    (Poll, Cycle(1)),
-    (Collect, Done),
-    (Leave, Yes),
-    (
-        Cas {
-            r: 0,
-            i: 3,
-            a: 5,
-            v: 1,
-        },
-        Done,
-    ),
-    (
-        Cas {
-            r: 1,
-            i: 4097,
-            a: 5,
-            v: 2,
-        },
-        NoObject,
-    ),
-    (
-        Cas {
-            r: 16,
-            i: 0,
-            a: 5,
-            v: 2,
-        },
-        NoObject,
-    ),
-    (
-        Cas {
-            r: 1,
-            i: 0,
-            a: 16,
-            v: 2,
-        },
-        NoObject,
-    ),
-    (
-        Cas {
-            r: 1,
-            i: 0,
-            a: 5,
-            v: 16,
-        },
-        NoObject,
-    ),
-];
 
 /// An entry, and whether it may stand after those above that may. The heap has two seats.
 const ENTRIES: &[&str] = &[
@@ -166,20 +78,15 @@ const ENTRIES: &[&str] = &[
     "c cycle = cycle 0 => legal",
 ];
 
-#[test]
-fn accepts_no_other_commands_and_replies(rt: HostRuntime) -> Result<(), Fail> {
-    let alloc = rt.alloc();
-    let heap = Heap::make(1, 0, 2, 32).ok_or("the limits")?;
-    let mut graph = Graph::new(alloc, heap)?;
-    for (command, reply) in UNWRITTEN {
-        let given = graph.apply(&Entry::Said {
-            seat: 0,
-            command,
-            reply,
-        });
-        let at = format!(in alloc; "{command:?} = {reply:?}")?;
-        same(&rt, &given, &Err(ApplyFault::NotLegal), &at);
-    }
+/// The graph of a heap that opens.
+fn graph_of(alloc: Global, groups: u16, spine: u16, seats: u8) -> Result<Graph, Fail> {
+    let heap = Heap::make(groups, spine, seats, 32).ok_or("the limits")?;
+    Ok(Graph::new(alloc, heap)?)
+}
+
+/// The graph grows by the entry that the line is.
+fn grow(alloc: Global, graph: &mut Graph, line: &str) -> Result<(), Fail> {
+    graph.apply(&entry_of(alloc, line)?)?;
     Ok(())
 }
 
@@ -192,14 +99,19 @@ fn answer_of(verdict: &str) -> Result<(), ApplyFault> {
     }
 }
 
+/// The graph accepts the entry exactly if it may stand.
+fn judges(rt: &(impl Abort + AllocGlobal), graph: &mut Graph, line: &str) -> Result<(), Fail> {
+    let (entry, verdict) = line.split_once(" => ").ok_or("an entry has a verdict")?;
+    let given = graph.apply(&entry_of(rt.alloc(), entry)?);
+    same(rt, &given, &answer_of(verdict), &line);
+    Ok(())
+}
+
 /// The graph of a heap of two seats, which accepts of these entries just those that may stand.
 fn grown(rt: &(impl Abort + AllocGlobal), entries: &[&str]) -> Result<Graph, Fail> {
-    let heap = Heap::make(1, 0, 2, 32).ok_or("the limits")?;
-    let mut graph = Graph::new(rt.alloc(), heap)?;
+    let mut graph = graph_of(rt.alloc(), 1, 0, 2)?;
     for line in entries {
-        let (entry, verdict) = line.split_once(" => ").ok_or("an entry has a verdict")?;
-        let given = graph.apply(&entry_of(rt.alloc(), entry)?);
-        same(rt, &given, &answer_of(verdict), line);
+        judges(rt, &mut graph, line)?;
     }
     Ok(graph)
 }
@@ -212,16 +124,18 @@ const HELD: [(u8, u8, Value); 4] = [
     (1, 2, Value::Object(FIRST)),
 ];
 
+/// The register holds the value.
+fn holds_value(rt: &impl Abort, graph: &Graph, seat: u8, register: u8, value: Value) {
+    let is_there = (seat as usize) < graph.seats() && register <= 15;
+    holds(rt, is_there, &seat);
+    same(rt, &graph.value(seat, register), &value, &seat);
+}
+
 #[test]
 fn accepts_what_a_growing_heap_says(rt: HostRuntime) -> Result<(), Fail> {
     let graph = grown(&rt, ENTRIES)?;
     for (seat, register, value) in HELD {
-        holds(
-            &rt,
-            (seat as usize) < graph.seats() && register <= 15,
-            &seat,
-        );
-        same(&rt, &graph.value(seat, register), &value, &seat);
+        holds_value(&rt, &graph, seat, register, value);
     }
     Ok(())
 }

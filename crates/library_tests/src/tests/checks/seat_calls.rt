@@ -4,15 +4,18 @@ ghost use Rattle.std.specs.Prelude.{◌≡◌, ◌+◌, ◌*◌, ◌<◌, ◌≤
 ghost use Rattle.heap_model.specs.calls.SeatState.{own_graph_seat};
 
 use crate::tests::comparing::{holds, same};
-use heap_model::{SeatCalls, seat_laws};
-use opening::opening;
+use crate::tests::opening::opening;
+use collector_turns::Collector;
+use heap_model::{Entry, Memory, SeatCalls, seat_laws};
+use mutator_seat::Seat;
 use playing::{parted, play};
 use reply_text::read_history;
+use std::alloc::Global;
+use std::process::Abort;
 use std::test::Fail;
 
 mod boards;
 mod calling;
-mod opening;
 mod playing;
 mod racing;
 mod swaps;
@@ -116,26 +119,55 @@ const STORIES: [(&str, u32, u32); 5] = [
     ),
 ];
 
+/// The seat and the collector have told just these entries, and the seat has made so many objects and done so many sets.
+fn have_told(
+    rt: &impl Abort,
+    alloc: Global,
+    seat: &Seat,
+    collector: &Collector,
+    entries: &[Entry],
+    row: (&str, u32, u32),
+) -> Result<(), Memory> {
+    let (story, made, sets) = row;
+    let (wanted, phases) = parted(alloc, entries)?;
+    same(rt, &seat.log(), &wanted.as_slice(), &story);
+    same(rt, &collector.log(), &phases.as_slice(), &story);
+    same(rt, &seat.names_left(), &(u32::MAX - made), &story);
+    same(
+        rt,
+        &seat.stamps_left(),
+        &67108863u32.saturating_sub(sets),
+        &story,
+    );
+    Ok(())
+}
+
+/// A seat that opens, and its collector, make what the entries tell.
+fn make(
+    rt: &impl Abort,
+    alloc: Global,
+    entries: &[Entry],
+    row: (&str, u32, u32),
+) -> Result<(), Fail> {
+    let (mut seat, mut collector) = opening(alloc)?;
+    play(rt, &mut seat, &mut collector, entries, row.0)?;
+    have_told(rt, alloc, &seat, &collector, entries, row)?;
+    Ok(())
+}
+
+/// The story is a legal history, which a seat makes.
+fn does(rt: &(impl Abort + AllocGlobal), row: (&str, u32, u32)) -> Result<(), Fail> {
+    let alloc = rt.alloc();
+    let text = format!(in alloc; "history 1 play\nheap 1 6 1\n{}", row.0)?;
+    holds(rt, super::checked(alloc, &text)?.is_ok(), &row.0);
+    let history = read_history(alloc, text.as_bytes())?;
+    make(rt, alloc, history.entries.as_slice(), row)
+}
+
 #[test]
 fn does_as_told(rt: HostRuntime) -> Result<(), Fail> {
-    let alloc = rt.alloc();
-    for (story, made, sets) in STORIES {
-        let text = format!(in alloc; "history 1 play\nheap 1 6 1\n{story}")?;
-        holds(&rt, super::checked(alloc, &text)?.is_ok(), &story);
-        let history = read_history(alloc, text.as_bytes())?;
-        let (wanted, phases) = parted(alloc, history.entries.as_slice())?;
-        let (mut seat, mut collector) = opening(alloc)?;
-        play(
-            &rt,
-            &mut seat,
-            &mut collector,
-            history.entries.as_slice(),
-            story,
-        )?;
-        same(&rt, &seat.log(), &wanted.as_slice(), &story);
-        same(&rt, &collector.log(), &phases.as_slice(), &story);
-        same(&rt, &seat.names_left(), &(u32::MAX - made), &story);
-        same(&rt, &seat.stamps_left(), &(67108863 - sets), &story);
+    for row in STORIES {
+        does(&rt, row)?;
     }
     Ok(())
 }
@@ -164,14 +196,20 @@ fn make_and_poll<S: SeatCalls>(seat: &mut S)
     poll_often(seat, 5);
 }
 
+/// The seat makes room, an object and its polls.
+fn polls(rt: &impl Abort, seat: &mut Seat) -> Result<(), Memory> {
+    seat.room(16)?;
+    holds(rt, !seat.left() && seat.names_left() > 0, &"the beginning");
+    make_and_poll(seat);
+    seat.room(16)?;
+    poll_often(seat, 7);
+    same(rt, &seat.log().len(), &14, &"the end");
+    Ok(())
+}
+
 #[test]
 fn finds_its_room(rt: HostRuntime) -> Result<(), Fail> {
     let (mut seat, _) = opening(rt.alloc())?;
-    seat.room(16)?;
-    holds(&rt, !seat.left() && seat.names_left() > 0, &"the beginning");
-    make_and_poll(&mut seat);
-    seat.room(16)?;
-    poll_often(&mut seat, 7);
-    same(&rt, &seat.log().len(), &14, &"the end");
+    polls(&rt, &mut seat)?;
     Ok(())
 }

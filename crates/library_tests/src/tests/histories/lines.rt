@@ -90,16 +90,19 @@ fn reads(rt: &(impl Abort + AllocGlobal), head: &str, line: &str) -> Result<(), 
     Ok(())
 }
 
-#[test]
-fn each_line(rt: HostRuntime) -> Result<(), Fail> {
-    for line in LINES {
-        reads(&rt, FIRST_HEAD, line)?;
-        reads(&rt, SECOND_HEAD, line)?;
-    }
-    for line in SECOND_LINES {
-        reads(&rt, SECOND_HEAD, line)?;
+/// Reads and writes each of these lines behind this head.
+fn reads_each(rt: &(impl Abort + AllocGlobal), head: &str, lines: &[&str]) -> Result<(), Fail> {
+    for line in lines {
+        reads(rt, head, line)?;
     }
     Ok(())
+}
+
+#[test]
+fn each_line(rt: HostRuntime) -> Result<(), Fail> {
+    reads_each(&rt, FIRST_HEAD, LINES)?;
+    reads_each(&rt, SECOND_HEAD, LINES)?;
+    reads_each(&rt, SECOND_HEAD, SECOND_LINES)
 }
 
 const BAD_LINES: &[&str] = &[
@@ -190,17 +193,18 @@ fn refuses(rt: &(impl Abort + AllocGlobal), head: &str, line: &str) -> Result<()
     Ok(())
 }
 
-#[test]
-fn bad_lines(rt: HostRuntime) -> Result<(), Fail> {
-    for line in BAD_LINES {
-        refuses(&rt, FIRST_HEAD, line)?;
-        refuses(&rt, SECOND_HEAD, line)?;
-    }
-    for line in SECOND_LINES {
-        refuses(&rt, FIRST_HEAD, line)?;
-    }
-    for line in BAD_SECOND_LINES {
-        refuses(&rt, SECOND_HEAD, line)?;
+/// Refuses each of these lines behind this head.
+fn refuses_each(rt: &(impl Abort + AllocGlobal), head: &str, lines: &[&str]) -> Result<(), Fail> {
+    for line in lines {
+        refuses(rt, head, line)?;
     }
     Ok(())
+}
+
+#[test]
+fn bad_lines(rt: HostRuntime) -> Result<(), Fail> {
+    refuses_each(&rt, FIRST_HEAD, BAD_LINES)?;
+    refuses_each(&rt, SECOND_HEAD, BAD_LINES)?;
+    refuses_each(&rt, FIRST_HEAD, SECOND_LINES)?;
+    refuses_each(&rt, SECOND_HEAD, BAD_SECOND_LINES)
 }

@@ -23,13 +23,16 @@ const SMALL_BOARD: &[u8] = b"history 2 play\nheap 1 0 1 2\n\
     c phase 1\nc phase 2\nc phase 3\nc phase 4\nc phase 5\nc frees 1\nc phase 6\nc ends 0 kept 0\n\
     end used 0\n";
 
+/// A text, its version, the fields of its board, its entries, how many stand before the mark, and the fragments in use there.
+const WHOLES: [(&[u8], u8, u8, usize, usize, u64); 3] = [
+    (ONE_FRAGMENT, 1, 32, 12, 2, 16),
+    (RESERVE, 1, 32, 29, 19, 15),
+    (SMALL_BOARD, 2, 2, 12, 3, 1),
+];
+
 #[test]
 fn whole(rt: HostRuntime) -> Result<(), Fail> {
-    for (text, version, board, entries, before, used) in [
-        (ONE_FRAGMENT, 1, 32, 12, 2, 16),
-        (RESERVE, 1, 32, 29, 19, 15),
-        (SMALL_BOARD, 2, 2, 12, 3, 1),
-    ] {
+    for (text, version, board, entries, before, used) in WHOLES {
         let history = read_history(rt.alloc(), text)?;
         same(&rt, &history.version, &version, &entries);
         same(&rt, &history.heap.board, &board, &entries);

@@ -1,7 +1,8 @@
 ghost use Rattle.heap_model.specs.Heap.{IsHeap};
 
 use super::player::Told;
-use heap_model::{Account, ApplyFault, Entry, Graph, Heap, Memory};
+use crate::tests::books::accepts;
+use heap_model::{Account, Entry, Graph, Heap, Memory};
 use heap_table::Closed;
 use std::alloc::Global;
 
@@ -15,25 +16,6 @@ pub(super) enum Fault {
     /// Something is in use at the end.
     InUse,
 }
-
-/// Counts the entry in both books, if it may stand there in a run.
-fn accepts(graph: &mut Graph, account: &mut Account, entry: &Entry) -> Result<bool, Memory> {
-    if account.entries() >= MOST_ENTRIES || !account.has_seat(entry) {
-        return Ok(false);
-    }
-    let counted = match account.apply(graph, entry, false) {
-        Ok(()) => graph.apply(entry),
-        Err(fault) => Err(fault),
-    };
-    match counted {
-        Ok(()) => Ok(true),
-        Err(ApplyFault::NotLegal) => Ok(false),
-        Err(ApplyFault::Memory) => Err(Memory),
-    }
-}
-
-/// More entries than a play here has.
-const MOST_ENTRIES: u64 = 1_000_000;
 
 /// The first entry that may not stand where it came, or that something is in use at the end, by books in which nothing was counted yet.
 fn fault_by(

@@ -1,6 +1,6 @@
 //! Boards of several sizes on a machine: how it opens, what its seat is answered, and that a cycle frees the board.
 
-use super::calls::{call, log, turn, word};
+use super::calls::{call, is_answered, log, turn, word};
 use crate::tests::boards::{BOARDS, answers, heap_of};
 use crate::tests::comparing::same;
 use core_machine::{Address, Machine};
@@ -43,8 +43,7 @@ fn answers_on_each_board(rt: HostRuntime) -> Result<(), Fail> {
         let mut machine = machine_with(alloc, fields)?;
         opens(&rt, alloc, &machine, fragments, control, &fields)?;
         for (command, reply) in answers(alloc, fields, fragments)? {
-            let at = format!(in alloc; "{fields} {command:?}")?;
-            same(&rt, &call(&mut machine, 0, &command)?, &reply, &at);
+            is_answered(&rt, &mut machine, 0, command, reply, fields)?;
         }
     }
     Ok(())
@@ -61,17 +60,27 @@ fn end_of_cycle(machine: &mut Machine) -> Result<Turn, Fail> {
     Err("no end".into())
 }
 
+/// Once the seat has left, a cycle frees the board, which has so many fragments.
+fn frees(
+    rt: &impl Abort,
+    machine: &mut Machine,
+    fragments: u8,
+    at: &impl Display,
+) -> Result<(), Fail> {
+    call(machine, 0, &Command::Leave)?;
+    let ended = Turn::Ended { cycle: 0, kept: 0 };
+    same(rt, &end_of_cycle(machine)?, &ended, at);
+    let frees = Entry::Frees(u32::from(fragments));
+    same(rt, &log(machine, 1)?.contains(&frees), &true, at);
+    same(rt, &machine.free(), &16, at);
+    Ok(())
+}
+
 #[test]
 fn frees_each_board(rt: HostRuntime) -> Result<(), Fail> {
-    let alloc = rt.alloc();
     for (fields, fragments, _) in BOARDS {
-        let mut machine = machine_with(alloc, fields)?;
-        call(&mut machine, 0, &Command::Leave)?;
-        let ended = Turn::Ended { cycle: 0, kept: 0 };
-        same(&rt, &end_of_cycle(&mut machine)?, &ended, &fields);
-        let frees = Entry::Frees(u32::from(fragments));
-        same(&rt, &log(&machine, 1)?.contains(&frees), &true, &fields);
-        same(&rt, &machine.free(), &16, &fields);
+        let mut machine = machine_with(rt.alloc(), fields)?;
+        frees(&rt, &mut machine, fragments, &fields)?;
     }
     Ok(())
 }

@@ -4,9 +4,11 @@ ghost use Rattle.std.specs.Prelude.{◌↔◌, ◌+◌, ◌*◌, ◌≤◌, IsTr
 ghost use Rattle.heap_model.specs.Needs.{need_of};
 ghost use Rattle.core_machine.specs.table.Layout.{InTable};
 
+use crate::tests::comparing::same;
 use core_machine::{Address, Machine, Step};
 use heap_model::{Command, Entry, Heap, Inner, Reply, Turn};
 use std::alloc::Global;
+use std::process::Abort;
 use std::test::Fail;
 
 /// The machine of a heap of these sizes.
@@ -34,6 +36,20 @@ pub(super) fn call(machine: &mut Machine, seat: u8, command: &Command) -> Result
     }
     machine.room(seat, room_for(command))?;
     Ok(machine.play_call(seat, command))
+}
+
+/// The whole call of the seat is answered so, at this point of a test.
+pub(super) fn is_answered(
+    rt: &(impl Abort + AllocGlobal),
+    machine: &mut Machine,
+    seat: u8,
+    command: Command,
+    reply: Reply,
+    point: u8,
+) -> Result<(), Fail> {
+    let at = format!(in rt.alloc(); "{point} {command:?}")?;
+    same(rt, &call(machine, seat, &command)?, &reply, &at);
+    Ok(())
 }
 
 /// Whether the seat's command is begun.

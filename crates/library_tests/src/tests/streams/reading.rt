@@ -12,19 +12,22 @@ fn source(alloc: Global, text: &str, fail: u64) -> Result<MemSource, AllocError>
     Ok(MemSource::new(bytes, 2, fails))
 }
 
+/// What the source has, the limit, the call that fails, what reading all gives, and what the next read gives.
+const ENDS: [(&str, usize, u64, Result<&str, ReadAllFault>, &str); 8] = [
+    ("", 0, 9, Ok(""), ""),
+    ("abc", 3, 9, Ok("abc"), ""),
+    ("abc", 8, 9, Ok("abc"), ""),
+    ("abc", usize::MAX, 9, Ok("abc"), ""),
+    ("abc", 0, 9, Err(ReadAllFault::TooLong), "bc"),
+    ("abcde", 3, 9, Err(ReadAllFault::TooLong), "e"),
+    ("abcde", 8, 0, Err(ReadAllFault::ReadFault), "ab"),
+    ("abcde", 8, 1, Err(ReadAllFault::ReadFault), "cd"),
+];
+
 // The last column is what the next read gives.
 #[test]
 fn reads_to_the_end_or_the_limit(rt: HostRuntime) -> Result<(), Fail> {
-    for (text, limit, fail, want, next) in [
-        ("", 0, 9, Ok(""), ""),
-        ("abc", 3, 9, Ok("abc"), ""),
-        ("abc", 8, 9, Ok("abc"), ""),
-        ("abc", usize::MAX, 9, Ok("abc"), ""),
-        ("abc", 0, 9, Err(ReadAllFault::TooLong), "bc"),
-        ("abcde", 3, 9, Err(ReadAllFault::TooLong), "e"),
-        ("abcde", 8, 0, Err(ReadAllFault::ReadFault), "ab"),
-        ("abcde", 8, 1, Err(ReadAllFault::ReadFault), "cd"),
-    ] {
+    for (text, limit, fail, want, next) in ENDS {
         let mut source = source(rt.alloc(), text, fail)?;
         match (read_all(rt.alloc(), &mut source, limit), want) {
             (Ok(bytes), Ok(text)) => same(&rt, &bytes.as_slice(), &text.as_bytes(), &limit),

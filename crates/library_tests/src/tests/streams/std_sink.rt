@@ -20,17 +20,20 @@ impl Write for Broken {
     }
 }
 
+/// A piece, what writing it answers, and how many faults were counted then.
+const PIECES: [(&str, Result<usize, Failed>, u64); 5] = [
+    ("ab", Ok(2), 0),
+    ("cd", Ok(1), 0),
+    ("d", Err(Failed), 1),
+    ("", Ok(0), 1),
+    ("e", Err(Failed), 2),
+];
+
 #[test]
 fn counts_a_full_writer(rt: HostRuntime) -> Result<(), Fail> {
     let mut page = [b'-'; 3];
     let mut sink = StdSink::new(page.as_mut_slice());
-    for (piece, want, faults) in [
-        ("ab", Ok(2), 0),
-        ("cd", Ok(1), 0),
-        ("d", Err(Failed), 1),
-        ("", Ok(0), 1),
-        ("e", Err(Failed), 2),
-    ] {
+    for (piece, want, faults) in PIECES {
         same(&rt, &sink.write(piece.as_bytes()), &want, &piece);
         counts(&rt, &sink, faults)?;
     }

@@ -16,16 +16,19 @@ impl Read for Broken {
     }
 }
 
+/// What a read answers, what is there then, and how many faults were counted.
+const READS: [(Result<usize, Failed>, &str, u64); 4] = [
+    (Ok(2), "ab", 0),
+    (Ok(1), "cb", 0),
+    (Err(Failed), "cb", 1),
+    (Err(Failed), "cb", 2),
+];
+
 #[test]
 fn passes_bytes_and_counts_faults(rt: HostRuntime) -> Result<(), Fail> {
     let mut source = StdSource::new(b"abc".as_slice().chain(Broken));
     let mut into = [b'-'; 2];
-    for (want, after, faults) in [
-        (Ok(2), "ab", 0),
-        (Ok(1), "cb", 0),
-        (Err(Failed), "cb", 1),
-        (Err(Failed), "cb", 2),
-    ] {
+    for (want, after, faults) in READS {
         same(&rt, &source.read(&mut into), &want, &faults);
         same(&rt, &into.as_slice(), &after.as_bytes(), &faults);
         counts(&rt, &source, faults)?;

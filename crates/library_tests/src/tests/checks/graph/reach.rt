@@ -1,8 +1,10 @@
 //! What a graph reaches, and the fragments of its objects.
 
-use crate::tests::checks::entry_of;
+use super::{graph_of, grow};
 use crate::tests::comparing::same;
-use heap_model::{Graph, Heap, Id};
+use heap_model::{Graph, Id};
+use std::alloc::Global;
+use std::process::Abort;
 use std::test::Fail;
 
 const HEAD: Id = Id::Made { seat: 0, count: 0 };
@@ -72,27 +74,35 @@ const HELD_TWICE: &[Id] = &[Id::Board, ON_BOARD, LEFT_BEHIND];
 /// Nobody is there any more.
 const EMPTY: &[&str] = &["0 leave = ok", "1 leave = ok"];
 
+/// What the lines lead to, one list of them after another, and what is reached then.
+const STEPS: [(&str, &[&str], &[Id]); 5] = [
+    ("the beginning", &[], &[Id::Board]),
+    ("built", BUILT, ALL),
+    ("dropped", DROPPED, KEPT),
+    ("shared", SHARED, HELD_TWICE),
+    ("empty", EMPTY, &[]),
+];
+
+/// The graph grows by the entries that the lines are.
+fn grow_by(alloc: Global, graph: &mut Graph, lines: &[&str]) -> Result<(), Fail> {
+    for line in lines {
+        grow(alloc, graph, line)?;
+    }
+    Ok(())
+}
+
+/// The graph reaches these objects.
+fn reaches(rt: &impl Abort, graph: &Graph, wanted: &[Id], at: &str) -> Result<(), Fail> {
+    same(rt, &graph.reach()?.as_slice(), &wanted, &at);
+    Ok(())
+}
+
 #[test]
 fn reaches_what_a_path_leads_to(rt: HostRuntime) -> Result<(), Fail> {
-    let alloc = rt.alloc();
-    let heap = Heap::make(256, 1024, 3, 32).ok_or("the limits")?;
-    let mut graph = Graph::new(alloc, heap)?;
-    same(
-        &rt,
-        &graph.reach()?.as_slice(),
-        &[Id::Board].as_slice(),
-        &"the beginning",
-    );
-    for (name, lines, reached) in [
-        ("built", BUILT, ALL),
-        ("dropped", DROPPED, KEPT),
-        ("shared", SHARED, HELD_TWICE),
-        ("empty", EMPTY, &[]),
-    ] {
-        for line in lines {
-            graph.apply(&entry_of(alloc, line)?)?;
-        }
-        same(&rt, &graph.reach()?.as_slice(), &reached, &name);
+    let mut graph = graph_of(rt.alloc(), 256, 1024, 3)?;
+    for (name, lines, reached) in STEPS {
+        grow_by(rt.alloc(), &mut graph, lines)?;
+        reaches(&rt, &graph, reached, name)?;
     }
     Ok(())
 }
@@ -114,11 +124,8 @@ const FRAGMENTS: [(Id, u32); 10] = [
 #[test]
 fn counts_fragments(rt: HostRuntime) -> Result<(), Fail> {
     let alloc = rt.alloc();
-    let heap = Heap::make(256, 1024, 3, 32).ok_or("the limits")?;
-    let mut graph = Graph::new(alloc, heap)?;
-    for line in BUILT {
-        graph.apply(&entry_of(alloc, line)?)?;
-    }
+    let mut graph = graph_of(alloc, 256, 1024, 3)?;
+    grow_by(alloc, &mut graph, BUILT)?;
     for (id, fragments) in FRAGMENTS {
         let at = format!(in alloc; "{id:?}")?;
         same(&rt, &graph.frags(id), &fragments, &at);

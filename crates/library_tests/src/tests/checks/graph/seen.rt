@@ -1,8 +1,9 @@
 //! The stamps under which registers were seen: what a get brings and a copy hands on, and what leaves none.
 
-use crate::tests::checks::entry_of;
+use super::{graph_of, grow};
 use crate::tests::comparing::{holds, same};
-use heap_model::{Graph, Heap};
+use heap_model::Graph;
+use std::process::Abort;
 use std::test::Fail;
 
 /// The first seat's first set, its second and its third.
@@ -44,19 +45,19 @@ const ROWS: &[(&str, u8, u8, u32)] = &[
     ("1 poll = 7", 1, 2, THIRD),
 ];
 
+/// The register was seen under the stamp.
+fn was_seen(rt: &impl Abort, graph: &Graph, seat: u8, register: u8, stamp: u32, line: &str) {
+    let is_there = (seat as usize) < graph.seats() && register <= 15;
+    holds(rt, is_there, &line);
+    same(rt, &graph.seen(seat, register), &stamp, &line);
+}
+
 #[test]
 fn keeps_the_stamp_of_the_cell_that_was_read(rt: HostRuntime) -> Result<(), Fail> {
-    let alloc = rt.alloc();
-    let heap = Heap::make(1, 0, 2, 32).ok_or("the limits")?;
-    let mut graph = Graph::new(alloc, heap)?;
+    let mut graph = graph_of(rt.alloc(), 1, 0, 2)?;
     for &(line, seat, register, stamp) in ROWS {
-        graph.apply(&entry_of(alloc, line)?)?;
-        holds(
-            &rt,
-            (seat as usize) < graph.seats() && register <= 15,
-            &line,
-        );
-        same(&rt, &graph.seen(seat, register), &stamp, &line);
+        grow(rt.alloc(), &mut graph, line)?;
+        was_seen(&rt, &graph, seat, register, stamp, line);
     }
     Ok(())
 }

@@ -1,8 +1,8 @@
 //! Boards of several sizes: what the one seat of a table is answered by the trait.
 
-use super::opening::lone_seat;
 use super::playing;
 use crate::tests::boards::{BOARDS, answers, heap_of};
+use crate::tests::opening::lone_seat;
 use std::test::Fail;
 
 #[test]

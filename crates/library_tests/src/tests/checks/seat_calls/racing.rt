@@ -5,9 +5,9 @@ ghost use Rattle.heap_model.specs.Heap.{IsHeap};
 ghost use Rattle.library_tests.specs.SameSeat.{IsSameSeat, IsSameTable};
 
 use super::calling::called;
-use super::opening::two_seats;
 use crate::tests::comparing::{holds, same};
 use crate::tests::merges::accept;
+use crate::tests::opening::two_seats;
 use crate::tests::swaps::{READ, swap};
 use crate::tests::table::close_two;
 use core_machine::Log;

@@ -1,7 +1,7 @@
 //! Compare and swap by the trait: what two seats of one table are answered.
 
-use super::opening::two_seats;
 use super::playing::answers;
+use crate::tests::opening::two_seats;
 use crate::tests::swaps;
 use core_machine::Log;
 use heap_model::Heap;

@@ -5,8 +5,8 @@ ghost use Rattle.heap_model.specs.Heap.{IsHeap};
 ghost use Rattle.library_tests.specs.SameSeat.{IsOfTable, IsSameSeat, IsSameTable};
 
 use super::calling::called;
-use super::opening::two_seats;
 use crate::tests::comparing::{holds, same};
+use crate::tests::opening::two_seats;
 use core_machine::{CountedLog, CountsEntries, LastLog, Log, ShowsLast};
 use heap_model::{Command, Heap, Memory, Reply, Turn};
 use heap_table::{Closed, ClosedWords, CollectorHolder};

@@ -3,7 +3,7 @@ use Rattle.heap_table.specs.Opened.{IsOpened}
 use Rattle.heap_table.specs.SeatHeld.{SeatHeld}
 use Rattle.library_tests.proofs.FirstCalls.{first_is_between_calls}
 use Rattle.library_tests.proofs.Popped.{all_of_popped_list}
-use Rattle.library_tests.proofs.tests.checks.seat_calls.opening.lone_seat.Goals as goal
+use Rattle.library_tests.proofs.tests.opening.lone_seat.Goals as goal
 
 pub make-requires-2 : goal.make-requires-2
 make-requires-2 c =

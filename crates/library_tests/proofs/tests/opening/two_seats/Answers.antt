@@ -2,7 +2,7 @@ use Rattle.heap_table.specs.Opened.{IsOpened}
 use Rattle.library_tests.proofs.FirstCalls.{first_is_between_calls}
 use Rattle.library_tests.proofs.OfTable.{is_of_table_of_opened, is_same_seat_of_equal}
 use Rattle.library_tests.proofs.Popped.{all_of_last_two}
-use Rattle.library_tests.proofs.tests.checks.seat_calls.opening.two_seats.Goals as goal
+use Rattle.library_tests.proofs.tests.opening.two_seats.Goals as goal
 
 pub make-requires-2 : goal.make-requires-2
 make-requires-2 g c =
