@@ -18,6 +18,11 @@ fn placed_of(order: &[usize], number: usize) -> usize {
     placed
 }
 
+/// How many entries each log has in the order, with one more of this log.
+pub(super) fn counts_with(order: &[usize], next: usize) -> [usize; 3] {
+    [0, 1, 2].map(|number| placed_of(order, number).saturating_add(usize::from(number == next)))
+}
+
 /// The entries of the log that are in the order, and those that aren't yet.
 fn parts_of<'a>(
     logs: &'a [Vec<Entry>],

@@ -1,17 +1,18 @@
 ghost use Rattle.heap_model.specs.Heap.{IsHeap};
 
 use super::books::{Books, Verdict};
-use super::order::{Order, accept, has_all, replies_of, rest_of, stands};
+use super::order::{Order, accept, counts_with, has_all, replies_of, rest_of, stands};
 use super::waiting::is_behind;
 use heap_model::{Entry, Heap, Memory};
 use std::alloc::Global;
+use std::collections::BTreeSet;
 
 /// What a search came to.
 #[derive(Clone, Copy, Debug, PartialEq)]
 pub(super) enum End {
     /// An order in which graph and account accept all entries, and nothing is in use at the end.
     Found,
-    /// There is no such order.
+    /// No such order was found. Of orders that hold the same entries of each log only the first is followed.
     Nothing,
     /// There were too few steps.
     RanOut,
@@ -27,6 +28,8 @@ struct Search<'a> {
     begun: &'a [u8],
     order: Order,
     books: Books,
+    /// How many entries each log had in the orders that the search has left, since nothing came of them.
+    left: BTreeSet<[usize; 3]>,
     ghost limits: { IsHeap heap },
 }
 
@@ -75,12 +78,17 @@ impl Search<'_> {
         false
     }
 
+    /// Whether the search has left an order that had as many entries of each log as this one has with the log's next.
+    fn has_left(&self, number: usize) -> bool {
+        self.left.contains(&counts_with(&self.order, number))
+    }
+
     /// Puts the next entry of the log into the order, if graph and account both accept it.
     fn place(&mut self, number: usize) -> Result<bool, Memory> {
         let Some(entry) = rest_of(self.logs, &self.order, number).first().copied() else {
             return Ok(false);
         };
-        if self.must_wait(number, &entry) {
+        if self.has_left(number) || self.must_wait(number, &entry) {
             return Ok(false);
         }
         match self.books.judge(&entry)? {
@@ -117,6 +125,7 @@ impl Search<'_> {
         let Some(number) = self.order.pop() else {
             return Ok(None);
         };
+        self.left.insert(counts_with(&self.order, number))?;
         self.reopen()?;
         Ok(Some(tried_at(&self.choices(), number).saturating_add(1)))
     }
@@ -171,6 +180,7 @@ pub(super) fn searched(
         begun,
         order: Vec::new(alloc),
         books,
+        left: BTreeSet::new(alloc),
     };
     search.end(steps)
 }

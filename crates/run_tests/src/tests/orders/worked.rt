@@ -27,12 +27,22 @@ const BETWEEN: &str =
 /// Seat 0 makes a record of all that is free, and so has to come behind seat 1, which gives that back.
 const MAKES_LATE: &str = "0 takes 5\n0 new 1 14 = 0.0\n1 takes 5\n1 gives back 5\n";
 
+/// The same with eight commands of each seat between, for which there are thousands of orders.
+const MAKES_LATE_BESIDE_MUCH: &str = "0 takes 5\n\
+    0 nil 1 = ok\n0 nil 1 = ok\n0 nil 1 = ok\n0 nil 1 = ok\n\
+    0 nil 1 = ok\n0 nil 1 = ok\n0 nil 1 = ok\n0 nil 1 = ok\n\
+    0 new 1 14 = 0.0\n\
+    1 nil 1 = ok\n1 nil 1 = ok\n1 nil 1 = ok\n1 nil 1 = ok\n\
+    1 nil 1 = ok\n1 nil 1 = ok\n1 nil 1 = ok\n1 nil 1 = ok\n\
+    1 takes 5\n1 gives back 5\n";
+
 /// The logs hold fourteen entries with leaves and cycle, so that fifteen steps find an order where none is taken back.
 const ROWS: &[Row] = &[
     (BETWEEN, Some(11), 15, End::Found),
     (BETWEEN, Some(11), 4, End::RanOut),
     (MAKES_LATE, Some(16), 15, End::RanOut),
     (MAKES_LATE, Some(16), 1000, End::Found),
+    (MAKES_LATE_BESIDE_MUCH, Some(16), 1000, End::Found),
     // A set that isn't there.
     (
         "0 num 1 5 = ok\n1 get 2 0 3 = nil at -\n1 get 2 0 3 = number 5 at 0:1\n",
