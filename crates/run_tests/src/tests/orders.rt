@@ -26,11 +26,17 @@ mod worked;
 /// The groups and spine words of the heaps.
 const SIZES: [(u16, u16); 6] = [(1, 0), (2, 4), (3, 8), (4, 0), (1, 4), (2, 8)];
 
-/// The most steps of a search, which are many times as many as it takes.
-const MOST_STEPS: u32 = 20_000;
+/// How many runs there are.
+const RUNS: u32 = 100;
+
+/// How many there are at most, where fewer bring too little, as on processors that are full with other work.
+const MOST_RUNS: u32 = 1_000;
+
+/// The most steps of a search. Nearly all take one for each entry and some more, but a few that go back far take tens of thousands.
+const MOST_STEPS: u32 = 400_000;
 
 /// How often things have come that these runs are to bring.
-#[derive(Clone, Copy)]
+#[derive(Clone, Copy, Debug)]
 struct Seen {
     full: u32,
     spine_full: u32,
@@ -74,14 +80,15 @@ impl Seen {
     }
 }
 
-/// The logs of the run have an order, which is found and stands.
+/// The logs of the run have an order, which is found and stands. What fails is told with them, as threads don't make them again.
 fn has_order(rt: &impl Abort, alloc: Global, heap: Heap, run: &Run, start: u32) -> Result<(), Fail>
     requires { IsHeap heap }
 {
     let logs = run.closed.logs();
     let (end, stands) = searched(alloc, heap, logs, &run.begun, MOST_STEPS)?;
-    same(rt, &end, &End::Found, &start);
-    holds(rt, stands, &start);
+    let told = format!(in alloc; "start {start}, begun {:?}, logs {logs:?}", run.begun)?;
+    same(rt, &end, &End::Found, &told);
+    holds(rt, stands, &told);
     Ok(())
 }
 
@@ -109,12 +116,16 @@ fn a_hundred_runs_have_orders(rt: HostRuntime) -> Result<(), Fail> {
         cycles: 0,
         shared: 0,
     };
-    for start in 0..100 {
+    for start in 0..MOST_RUNS {
+        if start >= RUNS && seen.is_ample() {
+            break;
+        }
         let run = ordered_run(&rt, start)?;
         for log in run.closed.logs() {
             seen.note_all(log);
         }
     }
-    holds(&rt, seen.is_ample(), &"what has come");
+    let told = format!(in rt.alloc(); "{seen:?}")?;
+    holds(&rt, seen.is_ample(), &told);
     Ok(())
 }
