@@ -62,7 +62,7 @@ pub struct SeatParty<L: Entries = Log> {
     pub(crate) loaded: u64,
     pub(crate) asked: u64,
     pub(crate) shaded: u8,
-    pub(crate) sets: u32,
+    pub(crate) sets: u64,
     pub(crate) looks: Looks,
     pub(crate) left: bool,
     pub(crate) mine: L,

@@ -1,5 +1,5 @@
 ghost use Rattle.std.specs.Prelude.{◌≡◌, ◌+◌, ◌<◌, ◌^◌, IfSome};
-ghost use Rattle.heap_model.specs.Limits.{register_count, most_seats, stamp_limit};
+ghost use Rattle.heap_model.specs.Limits.{register_count, most_seats, set_limit};
 ghost use Rattle.core_machine.specs.seat.Seat.{with_entries, with_held};
 ghost use Rattle.core_machine.specs.seat.Commands.{target_of, source_of};
 ghost use Rattle.heap_words.specs.Loaded.{head_of};
@@ -54,10 +54,11 @@ impl<L: Entries> SeatParty<L> {
         requires source { source_of self.now.seat.command < register_count }
         requires small { IsSmall (new_register_of self.now.seat) }
         requires number { number < most_seats }
-        requires stamp { self.now.seat.sets + 1 < stamp_limit }
+        requires stamp { self.now.seat.sets + 1 < set_limit }
         ensures { result ≡ new_word_of number self.now.seat }
     {
-        let stamp = (u32::from(number) + 1) * STAMP_LIMIT + self.sets + 1;
+        let count = (self.sets + 1) % u64::from(STAMP_LIMIT);
+        let stamp = (u32::from(number) + 1) * STAMP_LIMIT + count as u32;
         self.new_register().word(stamp)
     }
 
@@ -149,7 +150,7 @@ impl<L: Entries> SeatParty<L> {
 
     /// Learns what the swap took out of the field.
     pub(crate) fn learn_swap(&mut self, number: u8, found: u64)
-        requires sets { self.old.seat.sets < stamp_limit }
+        requires sets { self.old.seat.sets < set_limit }
         requires spare { 0 < self.old.spare }
         ensures seat { self.new.seat ≡ seat_after (swap_move number self.old.seat) found }
         ensures spare { KeepsRoom self.old self.new }

@@ -1,6 +1,6 @@
 -- When a seat may be called, and which entries each call adds.
 use Rattle.std.specs.Prelude.{◌≡◌, ℕ, ◌+◌, ◌*◌, ◌==◌, ◌<◌, ◌≤◌, ◌⊎◌, if◌then◌else◌, false, List, [], ◌∷◌, ◌++◌, length, map, sum, All}
-use Rattle.heap_model.specs.Limits.{group_fragments, most_reserve, name_limit, stamp_limit}
+use Rattle.heap_model.specs.Limits.{group_fragments, most_reserve, name_limit, set_limit}
 use Rattle.heap_model.specs.declared.command.Command.{Command}
 use Rattle.heap_model.specs.declared.command.Command.TheVariants as commands
 use Rattle.heap_model.specs.declared.reply.Reply.{Reply}
@@ -13,12 +13,12 @@ use Rattle.heap_model.specs.account.PhaseCounts.{last_answer}
 use Rattle.heap_model.specs.account.Space.{taken_of, spent_of}
 use Rattle.heap_model.specs.calls.SeatState.{SeatState, own_graph_seat}
 
--- a name is left for an object that the command makes, or a stamp for a cell that it sets
+-- a name is left for an object that the command makes, or one of its sets for a cell that it sets
 abbrev pub HasNumber : SeatState → Command → Type 0
 HasNumber seat (commands.New d fields) = length (own_graph_seat seat).objects + 1 < name_limit
 HasNumber seat (commands.Array d cells) = length (own_graph_seat seat).objects + 1 < name_limit
-HasNumber seat (commands.Set r i v) = (own_graph_seat seat).sets + 1 < stamp_limit
-HasNumber seat (commands.Cas r i a v) = (own_graph_seat seat).sets + 1 < stamp_limit
+HasNumber seat (commands.Set r i v) = (own_graph_seat seat).sets + 1 < set_limit
+HasNumber seat (commands.Cas r i a v) = (own_graph_seat seat).sets + 1 < set_limit
 HasNumber seat _ = Unit {0}
 
 -- the seat may be given the command
