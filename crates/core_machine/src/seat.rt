@@ -165,6 +165,7 @@ impl<L: Entries> SeatParty<L> {
         requires { 0 < self.old.spare }
         ensures seat { self.new.seat ≡ with_entries self.old.seat (entry ∷ []) }
         ensures spare { self.old.spare ≤ self.new.spare + 1 }
+        ensures no_more { self.new.spare ≤ self.old.spare }
         ensures forgotten { self.new.forgotten ≡ self.old.forgotten }
     {
         self.mine.push(entry);
@@ -199,6 +200,7 @@ impl<L: Entries> SeatParty<L> {
         requires { 0 < self.old.spare }
         ensures seat { self.new.seat ≡ seat_after_reply number self.old.seat reply }
         ensures spare { self.old.spare ≤ self.new.spare + 1 }
+        ensures no_more { self.new.spare ≤ self.old.spare }
         ensures forgotten { self.new.forgotten ≡ self.old.forgotten }
     {
         self.finish();

@@ -87,7 +87,7 @@ ComesBefore number unborn last commands.Leave reply before = before ≡ last_giv
 ComesBefore number unborn last commands.Collect reply before = ⊥
 ComesBefore number unborn last _ reply before = before ≡ []
 
--- the seat got its entries for the command, the reply last, and lost no more room than they take
+-- the seat got its entries for the command, the reply last; it lost no more room than they take, and got none
 pub record Adds (old new : SeatState) (command : Command) (reply : Reply) : Type 0 where
   pub heap : new.heap ≡ old.heap
   pub number : new.number ≡ old.number
@@ -97,3 +97,4 @@ pub record Adds (old new : SeatState) (command : Command) (reply : Reply) : Type
   pub comes : ComesBefore old.number unborn (last_answer old.number old.mine) command reply before
   pub entries : new.mine ≡ old.mine ++ (before ++ Said old.number command reply ∷ [])
   pub spare : old.spare + length old.mine ≤ new.spare + length new.mine
+  pub no_more : new.spare ≤ old.spare
