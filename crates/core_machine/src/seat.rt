@@ -23,6 +23,7 @@ pub(crate) mod collecting;
 pub(crate) mod commands;
 mod compare;
 mod due;
+mod endings;
 mod gather;
 mod hands;
 mod handshake;

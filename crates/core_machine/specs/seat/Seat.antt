@@ -1,5 +1,5 @@
 -- What the machine keeps of a seat. The seat's number is its position among the seats, and stands nowhere in it.
-use Rattle.std.specs.Prelude.{ℕ, ◌+◌, ◌<◌, Bool, true, List, [], ◌∷◌, ◌++◌, slice_set}
+use Rattle.std.specs.Prelude.{◌≡◌, ℕ, ◌+◌, ◌<◌, Bool, true, List, [], ◌∷◌, ◌++◌, slice_set}
 use Rattle.heap_words.specs.declared.spot.Spot.{Spot}
 use Rattle.heap_model.specs.declared.entry.Entry.{Entry}
 use Rattle.heap_model.specs.declared.entry.Entry.TheVariants.{Said}
@@ -154,6 +154,10 @@ call_over seat = record absent_seat {
   left = seat.left;
   mine = seat.mine;
 }
+
+-- the seat has nothing of a call: the end of one would change nothing
+abbrev pub HasNoCall : Seat → Type 0
+HasNoCall seat = call_over seat ≡ seat
 
 -- the call is over with its reply, and the seat forgets what it has found since the one before
 abbrev pub after_call : Seat → Seat
