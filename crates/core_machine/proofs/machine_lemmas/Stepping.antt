@@ -161,6 +161,14 @@ module _ (heap : Heap) (words : List ℕ) (parties : List SeatWithRoom) (collect
       let seat_ : eqb number (length (map (λ s. s.seat) parties)) ≡ false = ne_eqb number (length (map (λ s. s.seat) parties)) (λ e. absurd (omega arith)) in
       rw seat_ (ap (λ (s : Seat). s.mine) the_seat)
 
+  -- a party that forgets has forgotten as many of them as its log says
+  pub own_forgotten_are_partys : (forgets : ℕ → ℕ → ℕ) → next.forgotten ≡ forgets party.forgotten (length party.seat.mine)
+      → forgotten_of (value_of heap words (set parties number next) collector room gone) number
+      ≡ forgets (forgotten_of (value_of heap words parties collector room gone) number) (length (log_of (value_of heap words parties collector room gone) number))
+  own_forgotten_are_partys forgets is =
+      set_party_has_own_number (λ s. s.forgotten) parties gone number next within ∙ is ∙ ap (λ (n : ℕ). forgets n (length party.seat.mine)) (sym forgotten_before)
+      ∙ ap (λ (l : List Entry). forgets (forgotten_of (value_of heap words parties collector room gone) number) (length l)) (sym log_was_partys_list)
+
   -- and what is shown of them
   pub shown_before : (value : MachineValue) (told : List Entry) → value_of heap words parties collector room gone ≡ value → told ≡ drop party.forgotten party.seat.mine
       → party.forgotten ≤ length party.seat.mine → (told ≡ recent_of value number) × (forgotten_of value number ≤ length (log_of value number))

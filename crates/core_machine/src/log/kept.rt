@@ -73,6 +73,8 @@ impl CountsEntries for Log {
 }
 
 impl ShowsRecent for Log {
+    ghost forgets = { λ before _. before };
+
     fn recent(&self) -> &[Entry] {
         self.entries.as_slice()
     }
