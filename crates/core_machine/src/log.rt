@@ -43,6 +43,7 @@ pub trait Entries: Drop {
         requires { 0 < left self.old }
         ensures entries { listed self.new ≡ listed self.old ++ entry ∷ [] }
         ensures spare { left self.old ≤ left self.new + 1 }
+        ensures no_more { left self.new ≤ left self.old }
         ensures forgotten { forgotten self.new ≡ forgotten self.old };
 }
 

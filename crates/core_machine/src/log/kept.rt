@@ -62,10 +62,7 @@ impl Entries for Log {
     }
 
     fn push(&mut self, entry: Entry) {
-        match self.entries.push(entry) {
-            Ok(()) => (),
-            Err(_) => unreachable!(),
-        }
+        self.entries.push_reserved(entry);
     }
 }
 

@@ -60,10 +60,7 @@ impl Entries for RecentLog {
 
     fn push(&mut self, entry: Entry) {
         self.told.push(entry);
-        match self.recent.push(entry) {
-            Ok(()) => (),
-            Err(_) => unreachable!(),
-        }
+        self.recent.push_reserved(entry);
     }
 }
 

@@ -84,7 +84,7 @@ impl<L: Entries> SeatParty<L> {
     }
 
     /// How many sets it has done.
-    pub fn sets(&self) -> u32
+    pub fn sets(&self) -> u64
         ensures { result ≡ self.now.seat.sets }
     {
         self.sets
