@@ -45,7 +45,7 @@ enum {
     FODDERPAUSE_OUT_OF_RANGE = 4, /* a number */
     FODDERPAUSE_HAS_LEFT = 5,     /* the seat */
     FODDERPAUSE_NAMES_SPENT = 6,  /* the seat has made 4,294,967,295 objects */
-    FODDERPAUSE_STAMPS_SPENT = 7, /* the seat has set, or swapped, 67,108,863 times */
+    FODDERPAUSE_SETS_SPENT = 7,   /* the seat has set, or swapped, 2^63 - 1 times */
     FODDERPAUSE_ENTRIES_SPENT = 8, /* the collector has told nearly 2^64 entries; a seat's are not counted */
     FODDERPAUSE_NOT_FOUND = 9,    /* a collect notes only what it found */
     FODDERPAUSE_HAS_NOT_LEFT = 10,
@@ -88,7 +88,10 @@ typedef struct fodderpause_made {
     uint32_t found;
 } fodderpause_made;
 
-/* A cell: what it holds, its number or its object's number, its object's seat, and its stamp, which is 0 where it was never set. */
+/*
+ * A cell: what it holds, its number or its object's number, its object's seat, and its stamp, which is 0 where it was never set. The n-th set of seat s
+ * has the stamp (s + 1) * 2^26 + n % 2^26: after 2^26 sets a seat's stamps come again.
+ */
 typedef struct fodderpause_cell {
     uint32_t code;
     uint32_t kind;
@@ -108,6 +111,11 @@ typedef struct fodderpause_number {
     uint32_t code;
     uint32_t number;
 } fodderpause_number;
+
+typedef struct fodderpause_sets_told {
+    uint32_t code;
+    uint64_t sets;
+} fodderpause_sets_told;
 
 typedef struct fodderpause_phase_told {
     uint32_t code;
@@ -144,7 +152,7 @@ uint32_t fodderpause_drop(fodderpause_handle *party);
 
 /*
  * The calls of a seat. d is 1 to 15, every other register 0 to 15, and i is at most 4,096. NO_PARTY, OUT_OF_RANGE, HAS_LEFT; of the two that
- * allocate NAMES_SPENT, of set and cas STAMPS_SPENT; then what is said at each.
+ * allocate NAMES_SPENT, of set and cas SETS_SPENT; then what is said at each.
  */
 
 /* A record of 1 to 47 nil fields, which register d then holds. FULL. */
@@ -159,7 +167,10 @@ fodderpause_cell fodderpause_get(fodderpause_handle *seat, uint8_t d, uint8_t r,
 /* The cell i of register r's object gets what register v holds; the number is the stamp that was there. NO_OBJECT, NO_FIELD. */
 fodderpause_number fodderpause_set(fodderpause_handle *seat, uint8_t r, uint32_t i, uint8_t v);
 
-/* Likewise exactly where the cell still has the value and the stamp that register a was read with. NO_OBJECT, NO_FIELD. */
+/*
+ * Likewise exactly where the cell has the value and the stamp that register a was read with. So it takes a cell for unchanged into which one seat has put the
+ * same value again a multiple of 2^26 of its sets later, and no other. NO_OBJECT, NO_FIELD.
+ */
 fodderpause_swap fodderpause_cas(fodderpause_handle *seat, uint8_t r, uint32_t i, uint8_t a, uint8_t v);
 
 /* Register d gets the number n, which is below 2^30. */
@@ -185,7 +196,7 @@ fodderpause_number fodderpause_leave(fodderpause_handle *seat);
 
 /* How many more objects the seat can make, and how many more sets it can do. NO_PARTY. */
 fodderpause_number fodderpause_names_left(fodderpause_handle *seat);
-fodderpause_number fodderpause_stamps_left(fodderpause_handle *seat);
+fodderpause_sets_told fodderpause_sets_left(fodderpause_handle *seat);
 
 /*
  * What a collect is made of: look at the phase; answer it, as a poll does; look whether another seat is behind it; and note what the collect came to.

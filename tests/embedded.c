@@ -133,7 +133,7 @@ static void call(fodderpause_handle *seat)
     is("not the same", fodderpause_same(seat, 1, 2).number, 0);
     is("the board", fodderpause_len(seat, 0).number, 32);
     is("names", fodderpause_names_left(seat).number, 4294967294u);
-    is("stamps", fodderpause_stamps_left(seat).number, 67108861u);
+    is("sets", fodderpause_sets_left(seat).sets, INT64_MAX - 2);
     is("47 fields", fodderpause_new(seat, 5, 47).code, FODDERPAUSE_DONE);
     made = fodderpause_new(seat, 6, 47);
     is("47 fields more", made.code, FODDERPAUSE_FULL);
@@ -206,23 +206,48 @@ static void open_each_board(void)
     is("each is given back", blocks, 0);
 }
 
-/* A seat's last set, and then none: this takes some seconds. */
-static void spend_stamps(void)
+/* The seat sets a field of the board so often, and finds each time the stamp of its set before. Its first of these is its set of this number. */
+static void set_often(uint32_t field, uint32_t first, uint32_t count)
 {
-    is("open for sets", fodderpause_make(1, 0, 1, &collector, seats, 1), FODDERPAUSE_DONE);
-    uint32_t left = fodderpause_stamps_left(&seats[0]).number;
-    is("sets in a seat's life", left, 67108863);
-    for (; left > 0; left--) {
-        if (fodderpause_set(&seats[0], 0, 0, 1).code != FODDERPAUSE_DONE) {
-            is("sets that were left", left, 0);
+    for (uint32_t set = first; set < first + count; set++) {
+        fodderpause_number was = fodderpause_set(&seats[0], 0, field, 1);
+        if (was.code != FODDERPAUSE_DONE || (set > first && was.number != (1u << 26) + set - 1)) {
+            is("the stamp of the set before", was.number, (1u << 26) + set - 1);
             break;
         }
     }
-    is("one set more", fodderpause_set(&seats[0], 0, 0, 1).code, FODDERPAUSE_STAMPS_SPENT);
-    is("a swap", fodderpause_cas(&seats[0], 0, 0, 1, 1).code, FODDERPAUSE_STAMPS_SPENT);
-    is("a get still", fodderpause_get(&seats[0], 1, 0, 0).stamp, 67108863 + (1u << 26));
+}
+
+/* A seat's stamps come again after 2^26 sets: this takes some seconds. */
+static void set_past_all_stamps(void)
+{
+    uint32_t stamps = 1u << 26;
+    is("open for sets", fodderpause_make(1, 0, 2, &collector, seats, 2), FODDERPAUSE_DONE);
+    is("sets in a seat's life", fodderpause_sets_left(&seats[0]).sets, INT64_MAX);
+    is("a number", fodderpause_num(&seats[0], 1, 7).code, FODDERPAUSE_DONE);
+    is("set 1", fodderpause_set(&seats[0], 0, 0, 1).code, FODDERPAUSE_DONE);
+    is("its stamp", fodderpause_get(&seats[0], 2, 0, 0).stamp, stamps + 1);
+    set_often(1, 2, stamps - 2);
+    is("the stamp of the last before", fodderpause_set(&seats[0], 0, 1, 1).number, stamps + (stamps - 1));
+    is("the stamp of set 2^26", fodderpause_get(&seats[0], 3, 0, 1).stamp, stamps);
+    is("the other seat's first set", fodderpause_set(&seats[1], 0, 1, 2).number, stamps);
+    is("its stamp", fodderpause_get(&seats[1], 2, 0, 1).stamp, 2 * stamps + 1);
+    is("the first stamp is there yet", fodderpause_set(&seats[0], 0, 0, 1).number, stamps + 1);
+    is("and again", fodderpause_get(&seats[0], 4, 0, 0).stamp, stamps + 1);
+    fodderpause_swap swap = fodderpause_cas(&seats[0], 0, 0, 2, 1);
+    is("swapped, as read 2^26 sets ago", swap.swapped, 1);
+    is("the stamp there", swap.stamp, stamps + 1);
+    swap = fodderpause_cas(&seats[0], 0, 0, 2, 1);
+    is("not swapped under the next stamp", swap.swapped, 0);
+    is("which is told", swap.stamp, stamps + 2);
+    swap = fodderpause_cas(&seats[0], 0, 1, 3, 1);
+    is("nor where the other seat has set", swap.swapped, 0);
+    is("whose stamp is told", swap.stamp, 2 * stamps + 1);
+    is("one set more", fodderpause_set(&seats[0], 0, 1, 1).number, 2 * stamps + 1);
+    is("sets that are left", fodderpause_sets_left(&seats[0]).sets, INT64_MAX - (stamps + 3ull));
     is("let go", fodderpause_drop(&collector), FODDERPAUSE_DONE);
     is("let go", fodderpause_drop(&seats[0]), FODDERPAUSE_DONE);
+    is("let go", fodderpause_drop(&seats[1]), FODDERPAUSE_DONE);
 }
 
 int main(void)
@@ -236,6 +261,6 @@ int main(void)
     is("taken by all these calls", taken, 0);
     close_heap();
     open_each_board();
-    spend_stamps();
+    set_past_all_stamps();
     return failed;
 }

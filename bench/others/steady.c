@@ -46,7 +46,7 @@ int main(int count, char **words)
     if (getrusage(RUSAGE_SELF, &used) != 0) {
         return 1;
     }
-    printf("%llu %llu %llu %u %llu %ld\n", (unsigned long long) calls, (unsigned long long) refused, (unsigned long long) cycles,
-           (unsigned) fodderpause_stamps_left(&seat).number, (unsigned long long) time, used.ru_maxrss);
+    printf("%llu %llu %llu %llu %llu %ld\n", (unsigned long long) calls, (unsigned long long) refused, (unsigned long long) cycles,
+           (unsigned long long) fodderpause_sets_left(&seat).sets, (unsigned long long) time, used.ru_maxrss);
     return refused != 0;
 }

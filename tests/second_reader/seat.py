@@ -191,7 +191,7 @@ class Seat:
         if before != wanted:
             return Reply("now", (stamp_text(stamp_of(before)),))
         self.sets += 1
-        self.table.words[place] = self.registers[source] | (self.number + 1) * STAMP_UNIT + self.sets
+        self.table.words[place] = self.registers[source] | (self.number + 1) * STAMP_UNIT + self.sets % STAMP_UNIT
         return Reply("was", (stamp_text(stamp_of(before)),))
 
     def length(self, register: int) -> Reply:

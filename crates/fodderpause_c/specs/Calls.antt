@@ -1,7 +1,7 @@
 -- A whole call of a seat, or why it isn't made.
 use Rattle.std.specs.Prelude.{◌≡◌, ◌+◌, ◌*◌, ◌<◌, ◌≤◌, true, false, length, Result, Ok, Err}
 use Rattle.heap_model.specs.Command.{IsCommand}
-use Rattle.heap_model.specs.Limits.{name_limit, stamp_limit}
+use Rattle.heap_model.specs.Limits.{name_limit, set_limit}
 use Rattle.heap_model.specs.Needs.{need_of}
 use Rattle.heap_model.specs.calls.SeatCalls.{IsReady, HasNumber}
 use Rattle.heap_model.specs.calls.SeatState.{SeatState, own_graph_seat}
@@ -37,10 +37,10 @@ SetsField (Set r i v) = Unit {0}
 SetsField (Cas r i a v) = Unit {0}
 SetsField _ = ⊥
 
--- the command uses up a name or a stamp, and none is left
+-- the command uses up a name or a set, and none is left
 abbrev pub LacksNumber : SeatState → Command → Refusal → Type 0
 LacksNumber seat command causes.NamesSpent = MakesObject command × (name_limit ≤ length (own_graph_seat seat).objects + 1)
-LacksNumber seat command causes.StampsSpent = SetsField command × (stamp_limit ≤ (own_graph_seat seat).sets + 1)
+LacksNumber seat command causes.SetsSpent = SetsField command × (set_limit ≤ (own_graph_seat seat).sets + 1)
 LacksNumber seat command _ = ⊥
 
 -- the seat may not be called for this cause, the first that stands
@@ -48,7 +48,7 @@ abbrev pub Refuses : SeatState → Command → Refusal → Type 0
 Refuses seat command causes.OutOfRange = ¬ IsGiven command
 Refuses seat command causes.HasLeft = IsGiven command × ((own_graph_seat seat).left ≡ true)
 Refuses seat command causes.NamesSpent = IsPresentFor seat command × LacksNumber seat command causes.NamesSpent
-Refuses seat command causes.StampsSpent = IsPresentFor seat command × LacksNumber seat command causes.StampsSpent
+Refuses seat command causes.SetsSpent = IsPresentFor seat command × LacksNumber seat command causes.SetsSpent
 Refuses seat command causes.EntriesSpent = IsPresentFor seat command × HasNumber seat command × (seat.spare < 2 * need_of command + 4)
 Refuses seat command _ = ⊥
 

@@ -1,6 +1,6 @@
 -- The inner calls of a collect, and how much is left to a seat.
 use Rattle.std.specs.Prelude.{◌≡◌, ℕ, ◌+◌, ◌-◌, ◌<◌, ◌⊎◌, true, false, length, Option, Result, Ok, Err}
-use Rattle.heap_model.specs.Limits.{name_limit, stamp_limit}
+use Rattle.heap_model.specs.Limits.{name_limit, set_limit}
 use Rattle.heap_model.specs.calls.SeatState.{own_graph_seat}
 use Rattle.heap_model.specs.declared.calls.collect.CollectReply.{CollectReply}
 use Rattle.heap_model.specs.declared.calls.collect.Inner.{Inner}
@@ -78,5 +78,5 @@ abbrev pub TellsNames : SeatHeld → SeatHeld → Result ℕ Refusal → Type 0
 TellsNames = Tells (λ held left. left + length (own_graph_seat (seat_state held)).objects ≡ name_limit - 1)
 
 -- how many more sets it can do
-abbrev pub TellsStamps : SeatHeld → SeatHeld → Result ℕ Refusal → Type 0
-TellsStamps = Tells (λ held left. left + (own_graph_seat (seat_state held)).sets ≡ stamp_limit - 1)
+abbrev pub TellsSets : SeatHeld → SeatHeld → Result ℕ Refusal → Type 0
+TellsSets = Tells (λ held left. left + (own_graph_seat (seat_state held)).sets ≡ set_limit - 1)

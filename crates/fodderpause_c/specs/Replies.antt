@@ -12,6 +12,7 @@ use Rattle.fodderpause_c.specs.declared.refusal.Refusal.{Refusal}
 use Rattle.fodderpause_c.specs.declared.replies.Cell.{Cell}
 use Rattle.fodderpause_c.specs.declared.replies.Made.{Made}
 use Rattle.fodderpause_c.specs.declared.replies.Number.{Number}
+use Rattle.fodderpause_c.specs.declared.replies.SetsLeft.{SetsLeft}
 use Rattle.fodderpause_c.specs.declared.replies.Swap.{Swap}
 use Rattle.fodderpause_c.specs.declared.replies.TheConstants.{NIL, NUMBER, OBJECT, BOARD}
 
@@ -71,7 +72,12 @@ poll_shown (Ok (replies.Phase phase)) = record { code = DONE; phase = phase }
 poll_shown (Ok _) = record { code = DONE; phase = 0 }
 poll_shown (Err refusal) = record { code = refusal_code refusal; phase = 0 }
 
--- how much is left
+-- how many objects are left
 abbrev pub left_shown : Result ℕ Refusal → Number
 left_shown (Ok left) = record { code = DONE; number = left }
 left_shown (Err refusal) = record { code = refusal_code refusal; number = 0 }
+
+-- how many sets are left
+abbrev pub sets_shown : Result ℕ Refusal → SetsLeft
+sets_shown (Ok left) = record { code = DONE; sets = left }
+sets_shown (Err refusal) = record { code = refusal_code refusal; sets = 0 }

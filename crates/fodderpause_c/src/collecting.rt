@@ -1,16 +1,16 @@
 ghost use Rattle.std.specs.Prelude.{◌≡◌};
 ghost use Rattle.heap_model.specs.declared.calls.collect.CollectReply.TheVariants.{Cycle, Waits};
 ghost use Rattle.fodderpause_c.specs.Codes.{answer_code};
-ghost use Rattle.fodderpause_c.specs.Inner.{Looks, AnswersPhase, LooksBehind, Notes, TellsNames, TellsStamps};
+ghost use Rattle.fodderpause_c.specs.Inner.{Looks, AnswersPhase, LooksBehind, Notes, TellsNames, TellsSets};
 ghost use Rattle.fodderpause_c.specs.Parties.{ShowsSeat};
 ghost use Rattle.fodderpause_c.specs.Phases.{phase_shown, behind_shown};
-ghost use Rattle.fodderpause_c.specs.Replies.{left_shown};
+ghost use Rattle.fodderpause_c.specs.Replies.{left_shown, sets_shown};
 
 use crate::codes::answer_code;
 use crate::handle::Handle;
-use crate::inner_work::{AnswerWork, BehindWork, LookWork, NamesWork, NoteWork, StampsWork};
+use crate::inner_work::{AnswerWork, BehindWork, LookWork, NamesWork, NoteWork, SetsWork};
 use crate::phases::{Behind, Phase};
-use crate::replies::Number;
+use crate::replies::{Number, SetsLeft};
 use crate::seat_work::on_seat;
 use heap_model::CollectReply;
 use std::alloc::Global;
@@ -77,8 +77,8 @@ pub extern "C" fn fodderpause_names_left(alloc: Global, seat: &mut Handle) -> Nu
 
 /// How many more sets it can do.
 #[unsafe(no_mangle)]
-pub extern "C" fn fodderpause_stamps_left(alloc: Global, seat: &mut Handle) -> Number
-    ensures { ShowsSeat TellsStamps left_shown seat.old.pointer.party seat.new.pointer.party result }
+pub extern "C" fn fodderpause_sets_left(alloc: Global, seat: &mut Handle) -> SetsLeft
+    ensures { ShowsSeat TellsSets sets_shown seat.old.pointer.party seat.new.pointer.party result }
 {
-    Number::left(on_seat(alloc, seat, &StampsWork))
+    SetsLeft::of(on_seat(alloc, seat, &SetsWork))
 }

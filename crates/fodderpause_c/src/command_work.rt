@@ -14,7 +14,7 @@ pub struct CommandWork {
     pub command: Command,
 }
 
-/// Whether a name or a stamp is left where the command uses one up.
+/// Whether a name or a set is left where the command uses one up.
 fn numbered(seat: &HeapSeat, command: &Command) -> Result<(), Refusal>
     ensures { MatchResult result (λ _. HasNumber (seat_state seat.now) command.now) (LacksNumber (seat_state seat.now) command.now) }
 {
@@ -26,8 +26,8 @@ fn numbered(seat: &HeapSeat, command: &Command) -> Result<(), Refusal>
             Ok(())
         }
         Command::Set { .. } | Command::Cas { .. } => {
-            if seat.stamps_left() == 0 {
-                return Err(Refusal::StampsSpent);
+            if seat.sets_left() == 0 {
+                return Err(Refusal::SetsSpent);
             }
             Ok(())
         }

@@ -34,7 +34,7 @@ pub struct NamesWork;
 
 /// How many more sets it can do.
 #[derive(Drop)]
-pub struct StampsWork;
+pub struct SetsWork;
 
 /// Why the inner call may not be begun, where that is so.
 fn cause_of(inner: &Inner) -> Refusal
@@ -135,14 +135,14 @@ impl SeatWork for NamesWork {
     }
 }
 
-impl SeatWork for StampsWork {
-    ghost use Rattle.fodderpause_c.specs.Inner.{TellsStamps};
+impl SeatWork for SetsWork {
+    ghost use Rattle.fodderpause_c.specs.Inner.{TellsSets};
 
-    type Answer = u32;
+    type Answer = u64;
 
-    ghost comes_to = { λ _. TellsStamps };
+    ghost comes_to = { λ _. TellsSets };
 
-    fn work(&self, seat: &mut HeapSeat) -> Result<u32, Refusal> {
-        Ok(seat.stamps_left())
+    fn work(&self, seat: &mut HeapSeat) -> Result<u64, Refusal> {
+        Ok(seat.sets_left())
     }
 }

@@ -9,7 +9,7 @@ pub enum Refusal {
     OutOfRange = 4,
     HasLeft = 5,
     NamesSpent = 6,
-    StampsSpent = 7,
+    SetsSpent = 7,
     /// No more entries can be counted.
     EntriesSpent = 8,
     /// A collect tells only what was found.

@@ -1,5 +1,5 @@
 ghost use Rattle.std.specs.Prelude.{◌≡◌};
-ghost use Rattle.fodderpause_c.specs.Replies.{made_with, made_shown, cell_with, cell_holding, cell_shown, swap_shown, number_shown, left_shown};
+ghost use Rattle.fodderpause_c.specs.Replies.{made_with, made_shown, cell_with, cell_holding, cell_shown, swap_shown, number_shown, left_shown, sets_shown};
 
 use crate::codes::{DONE, FULL, NO_FIELD, NO_OBJECT, SPINE_FULL, refusal_code};
 use crate::refusal::Refusal;
@@ -48,12 +48,20 @@ pub struct Swap {
     pub stamp: u32,
 }
 
-/// What C is told where that is one number: a stamp, a length, whether two values are the same, or how much is left.
+/// What C is told where that is one number: a stamp, a length, whether two values are the same, or how many objects are left.
 #[repr(C)]
 #[derive(Clone, Copy)]
 pub struct Number {
     pub code: u32,
     pub number: u32,
+}
+
+/// What C is told of the sets that are left to a seat.
+#[repr(C)]
+#[derive(Clone, Copy)]
+pub struct SetsLeft {
+    pub code: u32,
+    pub sets: u64,
 }
 
 impl Made {
@@ -190,7 +198,7 @@ impl Number {
         Number { code, number }
     }
 
-    /// Of how much is left, or of why that isn't told.
+    /// Of how many objects are left, or of why that isn't told.
     pub fn left(answer: Result<u32, Refusal>) -> Number
         ensures { result ≡ left_shown answer }
     {
@@ -199,6 +207,21 @@ impl Number {
             Err(refusal) => Number {
                 code: refusal_code(refusal),
                 number: 0,
+            },
+        }
+    }
+}
+
+impl SetsLeft {
+    /// Of how many are left, or of why that isn't told.
+    pub fn of(answer: Result<u64, Refusal>) -> SetsLeft
+        ensures { result ≡ sets_shown answer }
+    {
+        match answer {
+            Ok(sets) => SetsLeft { code: DONE, sets },
+            Err(refusal) => SetsLeft {
+                code: refusal_code(refusal),
+                sets: 0,
             },
         }
     }

@@ -2,6 +2,7 @@ ghost use Rattle.std.specs.Prelude.{◌≡◌, map, IfOk, IfSome};
 ghost use Rattle.heap_model.specs.Heap.{IsHeap};
 ghost use Rattle.heap_model.specs.Logs.{logs_of};
 ghost use Rattle.heap_model.specs.graph.Legal.{IsObjectLegal};
+ghost use Rattle.log_merge.specs.FewSets.{HaveFewSets};
 ghost use Rattle.heap_caller.specs.Parties.{IsOfTable, StaysCollector};
 
 use crate::opening::Parties;
@@ -48,7 +49,8 @@ impl Parties {
 
 /// The one history: each party's entries in their order, each legal where it stands. That there is such an order is what a closed table promises.
 pub fn merged(alloc: Global, closed: &Closed) -> Result<Vec<Entry>, Memory>
-    requires { IsHeap closed.now.heap }
+    requires heap { IsHeap closed.now.heap }
+    requires few { HaveFewSets closed.now.logs }
     ensures legal { IfOk result (λ history. IsObjectLegal closed.now.heap history.items) }
     ensures kept { IfOk result (λ history. closed.now.logs ≡ logs_of closed.now.heap history.items) }
 {

@@ -8,13 +8,14 @@ mod opening;
 mod working;
 
 use heap_model::{Heap, Memory};
+use log_merge::have_few_sets;
 use opening::open;
 use std::alloc::Global;
 use std::io;
 use std::thread::Threads;
 use working::work_all;
 
-/// How many objects were made, as the one history of the closed table tells; none where a seat hasn't left.
+/// How many objects were made, as the one history of the closed table tells; none where a seat hasn't left, or has set too often for its stamps to tell which set each is.
 fn run<R: Threads + Sync>(rt: &R, alloc: Global, heap: Heap) -> Result<Option<usize>, Memory>
     requires { IsHeap heap }
 {
@@ -25,6 +26,9 @@ fn run<R: Threads + Sync>(rt: &R, alloc: Global, heap: Heap) -> Result<Option<us
     let Some(closed) = parties.close(alloc)? else {
         return Ok(None);
     };
+    if !have_few_sets(closed.logs()) {
+        return Ok(None);
+    }
     let history = closing::merged(alloc, &closed)?;
     Ok(Some(closing::records(history.as_slice())))
 }
@@ -35,7 +39,7 @@ fn main(rt: HostRuntime) -> io::Result<()> {
     };
     match run(&rt, rt.alloc(), heap) {
         Ok(Some(records)) => println!(rt; "one history has all of {records} records"),
-        Ok(None) => println!(rt; "a seat hasn't left"),
+        Ok(None) => println!(rt; "a seat hasn't left, or has set too often"),
         Err(Memory) => println!(rt; "memory is wanting"),
     }
 }

@@ -13,7 +13,7 @@ use Rattle.heap_model.specs.declared.id.Value.{Value}
 use Rattle.heap_model.specs.declared.id.Value.TheVariants.{Number, Object}
 use Rattle.heap_model.specs.declared.reply.Reply.{Reply}
 use Rattle.heap_model.specs.declared.reply.Reply.TheVariants as replies
-use Rattle.heap_model.specs.Limits.{register_count, stamp_limit}
+use Rattle.heap_model.specs.Limits.{register_count, set_limit}
 use Rattle.heap_model.specs.graph.Changes.{with_graph_seat, with_register, add, write, count_set, set_cell, set_stamp}
 use Rattle.heap_model.specs.graph.Graph.{Graph, GraphSeat, Node, fresh, unseen, unset}
 use Rattle.heap_model.specs.graph.Growth.{after_reply}
@@ -137,7 +137,7 @@ found : (g : Graph) (s r i : ℕ) (id : Id) → Reaches (view_of g) s r i id →
 found g s r i id reaches = ap (λ (value : Value). cell_or_refusal (target_node g value) i) reaches.holds ∙ found_in (node g id) i reaches.within
 
 module _ (g : Graph) (s : ℕ) (present : (graph_seat g s).left ≡ false) (sized : length (graph_seat g s).registers ≡ 16) where
-  writes : (r i v : ℕ) (id : Id) → Reaches (view_of g) s r i id → (graph_seat g s).sets + 1 < stamp_limit → Writes s id i (register_value g s v) (view_of g) (view_of (set_cell g s r i v))
+  writes : (r i v : ℕ) (id : Id) → Reaches (view_of g) s r i id → (graph_seat g s).sets + 1 < set_limit → Writes s id i (register_value g s v) (view_of g) (view_of (set_cell g s r i v))
   writes r i v id reaches stamps =
       let cell : Cell = record { value = register_value g s v; stamp = set_stamp s ((graph_seat g s).sets + 1) } in
       let there = object_in (node g id) i reaches.within in
@@ -160,7 +160,7 @@ module _ (g : Graph) (s : ℕ) (present : (graph_seat g s).left ≡ false) (size
       → IsSet s id i (register_value g s v) reply (view_of g) (view_of (after_reply g s (Set r i v) reply))
   set_at r i v reply sets id reaches =
       let cell : Cell = (view_of g).cell id i in
-      let is : (reply ≡ replies.Was cell.stamp) × ((graph_seat g s).sets + 1 < stamp_limit) = subst (λ (x : Result Cell Reply). Sets (graph_seat g s).sets x reply) (found g s r i id reaches) sets in
+      let is : (reply ≡ replies.Was cell.stamp) × ((graph_seat g s).sets + 1 < set_limit) = subst (λ (x : Result Cell Reply). Sets (graph_seat g s).sets x reply) (found g s r i id reaches) sets in
       record { stamp = cell.stamp; is = is.0; writes = subst (λ (x : Reply). Writes s id i (register_value g s v) (view_of g) (view_of (after_reply g s (Set r i v) x))) (sym is.0) (writes r i v id reaches is.1) }
 
   swapped_at : (r i a v : ℕ) (reply : Reply) (id : Id) → Reaches (view_of g) s r i id → SwapsAt (graph_seat g s).sets (register_cell g s a) ((view_of g).cell id i) reply

@@ -134,7 +134,7 @@ pub left_then : {names stamps room a b c : ℕ} {old new : SeatState} (n s r : �
 left_then n s r has one x y z = record {
   present = one.left ∙ has.present;
   names_left = let e = has.names_left in let f = one.made in omega arith;
-  stamps_left = let e = has.stamps_left in let f = one.sets in omega arith;
+  sets_left = let e = has.sets_left in let f = one.sets in omega arith;
   room_left = let e = has.room_left in let f = one.spare in omega arith;
 }
 
@@ -142,8 +142,8 @@ left_then n s r has one x y z = record {
 numbered : (seat : SeatState) (command : Command) (room : ℕ) → HasLeft (most_made command) (most_stamped command) room seat → HasNumber seat command
 numbered seat (commands.New d fields) room has = has.names_left
 numbered seat (commands.Array d cells) room has = has.names_left
-numbered seat (commands.Set r i v) room has = has.stamps_left
-numbered seat (commands.Cas r i a v) room has = has.stamps_left
+numbered seat (commands.Set r i v) room has = has.sets_left
+numbered seat (commands.Cas r i a v) room has = has.sets_left
 numbered seat command room has = tt
 
 -- the seat may be given the command, first
@@ -160,6 +160,6 @@ pub left_less : {names stamps room : ℕ} {seat : SeatState} (n s r : ℕ) → H
 left_less n s r has x y z = record {
   present = has.present;
   names_left = let e = has.names_left in omega arith;
-  stamps_left = let e = has.stamps_left in omega arith;
+  sets_left = let e = has.sets_left in omega arith;
   room_left = let e = has.room_left in omega arith;
 }

@@ -1,5 +1,5 @@
 -- A seat that leaves tells no more of the queue, takes nothing, and has gone.
-use Rattle.std.proofs.Common.{◌≡◌, ℕ, ◌==◌, inl, Bool, true, false, cond, List, [], ◌∷◌, ◌++◌, length, refl, ap, ◌∙◌, subst, sym, append-nil, arith}
+use Rattle.std.proofs.Common.{◌≡◌, ℕ, ◌==◌, ◌≤◌, inl, Bool, true, false, cond, List, [], ◌∷◌, ◌++◌, length, refl, ap, ◌∙◌, subst, sym, append-nil, arith}
 use Rattle.std.specs.Prelude.{All}
 use Rattle.std.proofs.lemmas.Bool.{eq-eqb, or_left, or_right}
 use Rattle.std.proofs.lemmas.List.Elements.{All-head, All-tail}
@@ -15,13 +15,17 @@ use Rattle.heap_model.specs.declared.entry.Entry.{Entry}
 use Rattle.heap_model.specs.declared.entry.Entry.TheVariants.{Said, GivesBack}
 use Rattle.heap_model.specs.declared.heap.Heap.{Heap}
 use Rattle.heap_model.specs.declared.reply.Reply.TheVariants.{Done}
+use Rattle.heap_model.specs.graph.Growth.{graph_after}
+use Rattle.heap_model.specs.graph.Objects.{graph_seat, opening}
+use Rattle.heap_model.specs.runs.Told.{commands_told}
+use Rattle.log_merge.proofs.SetCounts.{sets_grow_as_told}
 use Rattle.core_machine.specs.calls.Kept.{Kept}
 use Rattle.heap_table.specs.SeatHeld.{SeatHeld}
 use Rattle.mutator_seat.specs.Calls.{MakesCall}
 use Rattle.mutator_seat.specs.Resting.{seat_state, MakesRoom}
 use Rattle.heap_runs.specs.CollectCall.{IsPresent}
 use Rattle.heap_runs.specs.Finishing.{HasGone}
-use Rattle.heap_runs.specs.SeatWork.{IsOfTable}
+use Rattle.heap_runs.specs.SeatWork.{IsOfTable, sets_of}
 use Rattle.heap_queue.specs.declared.queue_command.QueueCommand.{QueueCommand}
 use Rattle.heap_queue.specs.Calls.{Call}
 use Rattle.heap_queue.specs.Effects.{start}
@@ -29,7 +33,7 @@ use Rattle.heap_queue.specs.Histories.{Leads}
 use Rattle.heap_queue.specs.Leaving.{Leaves}
 use Rattle.heap_queue.specs.Places.{Rests, Gone}
 use Rattle.heap_queue.specs.Served.{HasServed}
-use Rattle.heap_queue.specs.Serving.{first_calls, GoesOnBy, HasCome}
+use Rattle.heap_queue.specs.Serving.{first_calls, GoesOnBy, HasCome, HasLeftFor}
 use Rattle.heap_queue.specs.Working.{HasWorked}
 use Rattle.heap_queue.proofs.ServingLogs.{leads_on}
 
@@ -67,6 +71,22 @@ pub takes_no_more : (seat number unborn : ℕ) (log : List Entry) → taken_of s
 takes_no_more seat number unborn log none =
     omega (arith, sum_by-append (λ e. cond (is_of seat e) (effect_of e).taken 0) log (leave_entries number unborn), none, leave_takes_by seat number unborn (unborn == 0))
 
+-- it answers a leave alone
+leave_answers_by : (number unborn : ℕ) (none : Bool) → commands_told number (cond none [] (GivesBack number unborn ∷ []) ++ Said number Leave Done ∷ []) ≡ Leave ∷ []
+leave_answers_by number unborn true = rw (eq-eqb number number refl) refl
+leave_answers_by number unborn false = rw (eq-eqb number number refl) refl
+
+-- so it does no set more
+sets_stay : (old new : SeatHeld) → Leaves old new → sets_of new ≤ sets_of old
+sets_stay old new left =
+    let part = leave_entries old.number left.unborn in
+    let more = sets_grow_as_told old.heap old.seat.mine part old.number (Leave ∷ []) (leave_answers_by old.number left.unborn (left.unborn == 0)) in
+    let same : sets_of new ≡ (graph_seat (graph_after (opening old.heap) (old.seat.mine ++ part)) old.number).sets =
+    ap (λ h. (graph_seat (graph_after (opening h) new.seat.mine) new.number).sets) left.heap_stays
+    ∙ ap (λ (l : List Entry). (graph_seat (graph_after (opening old.heap) l) new.number).sets) left.mine
+    ∙ ap (λ n. (graph_seat (graph_after (opening old.heap) (old.seat.mine ++ part)) n).sets) left.number_stays in
+    omega (arith, same, more)
+
 -- it has gone
 pub has_gone : (table : TableId) (heap : Heap) (old new : SeatHeld) → IsOfTable table heap old → Leaves old new → HasGone table heap new
 has_gone table heap old new was leaves =
@@ -99,13 +119,14 @@ has_served number seat unborn script log come =
           (leads_on (start 0 number) Rests Gone log leaving (first_calls number ++ come.calls) [] come.leads (leave_leads seat unborn));
     }
 
-pub has_worked : (table : TableId) (heap : Heap) (number : ℕ) (script : List QueueCommand) (old served gone : SeatHeld) → IsOfTable table heap served → number ≡ old.number
+pub has_worked : (table : TableId) (heap : Heap) (number : ℕ) (script : List QueueCommand) (old served gone : SeatHeld) → IsOfTable table heap served → number ≡ old.number → HasLeftFor (length script) (seat_state old)
     → GoesOnBy (length script) (λ added. HasCome number script (old.seat.mine ++ added)) (seat_state old) (seat_state served) → Leaves served gone → HasWorked table heap old.number script gone
-has_worked table heap number script old served gone of_table is went left = record {
+has_worked table heap number script old served gone of_table is may went left = record {
   number_is = left.number_stays ∙ went.number;
   served = subst (λ (n : ℕ). HasServed n script gone.seat.mine) is
       (subst (HasServed number script) (sym left.mine) (has_served number served.number left.unborn script served.seat.mine (subst (HasCome number script) (sym went.told) went.tells)));
   gone = has_gone table heap served gone of_table left;
+  few = omega (arith, may.stamps, went.sets, sets_stay served gone left);
 }
 
 -- the seat that comes next is there

@@ -6,6 +6,7 @@ use Rattle.std.proofs.lemmas.Bool.{cases_lt}
 use Rattle.std.proofs.lemmas.List.{length-map}
 use Rattle.std.proofs.lemmas.Option.{slice_get-get_or, slice_get-map}
 use Rattle.atomic_table.specs.Seated.{TableId}
+use Rattle.heap_model.specs.Limits.{stamp_limit}
 use Rattle.heap_model.specs.Logs.{log_of, logs_of}
 use Rattle.heap_model.specs.declared.entry.Entry.{Entry}
 use Rattle.heap_model.specs.declared.fault.Memory.{Memory}
@@ -13,6 +14,7 @@ use Rattle.heap_model.specs.declared.heap.Heap.{Heap}
 use Rattle.heap_model.specs.graph.Legal.{IsObjectLegal}
 use Rattle.heap_table.specs.SeatHeld.{SeatHeld}
 use Rattle.heap_runs.specs.Finishing.{HasGone}
+use Rattle.heap_runs.specs.SeatWork.{sets_of}
 use Rattle.heap_runs.proofs.RunsEnd.{same_numbers}
 use Rattle.heap_queue.specs.declared.queue_command.QueueCommand.{QueueCommand}
 use Rattle.heap_queue.specs.Effects.{start}
@@ -50,6 +52,10 @@ module _ (table : TableId) (heap : Heap) (scripts : List (List QueueCommand)) (o
   -- each has gone
   pub all_gone : All (HasGone table heap) news
   all_gone k d few = (one k d few).gone
+
+  -- each has done few sets
+  pub all_few : All (λ seat. sets_of seat < stamp_limit) news
+  all_few k d few = (one k d few).few
 
   -- each has served the script of its number
   pub all_served : All (λ seat. HasServed seat.number (script_at scripts seat.number) seat.seat.mine) news

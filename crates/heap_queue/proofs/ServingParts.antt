@@ -34,7 +34,7 @@ pub left_with_room : {puts room : ℕ} {old new : SeatState} → new ≡ record 
 left_with_room {puts} {room} {old} {new} same has more = record {
   present = ap (λ (s : SeatState). (own_graph_seat s).left) same ∙ has.present;
   names_left = let n = ap (λ (s : SeatState). length (own_graph_seat s).objects) same in let x = has.names in omega (arith, n, x);
-  stamps_left = let n = ap (λ (s : SeatState). (own_graph_seat s).sets) same in let x = has.stamps in omega (arith, n, x);
+  sets_left = let n = ap (λ (s : SeatState). (own_graph_seat s).sets) same in let x = has.stamps in omega (arith, n, x);
   room_left = more;
 }
 

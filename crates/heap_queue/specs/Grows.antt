@@ -1,6 +1,6 @@
 -- When a seat may make the queue, put or take, and what one such call adds to its list.
 use Rattle.std.specs.Prelude.{◌≡◌, ℕ, ◌+◌, ◌<◌, ◌≤◌, false, List, ◌∷◌, ◌++◌, length}
-use Rattle.heap_model.specs.Limits.{name_limit, stamp_limit}
+use Rattle.heap_model.specs.Limits.{name_limit, set_limit}
 use Rattle.heap_model.specs.declared.command.Command.TheVariants.{New}
 use Rattle.heap_model.specs.declared.entry.Entry.{Entry}
 use Rattle.heap_model.specs.declared.entry.Entry.TheVariants.{Said, Takes}
@@ -9,14 +9,14 @@ use Rattle.heap_model.specs.calls.SeatState.{SeatState, own_graph_seat}
 use Rattle.heap_queue.specs.Calls.{Call, IsWhole}
 use Rattle.heap_queue.specs.Places.{Place}
 
--- the seat hasn't left, and has so many names, stamps and places for entries left
-pub record HasLeft (names stamps room : ℕ) (seat : SeatState) : Type 0 where
+-- the seat hasn't left, and has so many names, sets and places for entries left
+pub record HasLeft (names sets room : ℕ) (seat : SeatState) : Type 0 where
   pub present : (own_graph_seat seat).left ≡ false
   pub names_left : length (own_graph_seat seat).objects + names < name_limit
-  pub stamps_left : (own_graph_seat seat).sets + stamps < stamp_limit
+  pub sets_left : (own_graph_seat seat).sets + sets < set_limit
   pub room_left : room ≤ seat.spare
 
--- the queue may be made, and a value put or taken: each takes at most one name and three stamps, and sixteen places are enough for it
+-- the queue may be made, and a value put or taken: each takes at most one name and three sets, and sixteen places are enough for it
 abbrev pub MayCall : SeatState → Type 0
 MayCall seat = HasLeft 1 3 16 seat
 
@@ -38,11 +38,11 @@ pub record MakesAtOnce (old new : SeatState) : Type 0 where
   pub told : new.mine ≡ old.mine ++ added
   pub makes : MakesFirst added
 
--- it is the same seat of the same heap, hasn't left since, and at most so many of its names, stamps and places for entries are gone
-pub record Spends (names stamps room : ℕ) (old new : SeatState) : Type 0 where
+-- it is the same seat of the same heap, hasn't left since, and at most so many of its names, sets and places for entries are gone
+pub record Spends (names set_count room : ℕ) (old new : SeatState) : Type 0 where
   pub heap : new.heap ≡ old.heap
   pub number : new.number ≡ old.number
   pub left : (own_graph_seat new).left ≡ (own_graph_seat old).left
   pub made : length (own_graph_seat new).objects ≤ length (own_graph_seat old).objects + names
-  pub sets : (own_graph_seat new).sets ≤ (own_graph_seat old).sets + stamps
+  pub sets : (own_graph_seat new).sets ≤ (own_graph_seat old).sets + set_count
   pub spare : old.spare ≤ new.spare + room

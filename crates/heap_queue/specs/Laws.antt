@@ -5,7 +5,7 @@ use Rattle.heap_model.specs.declared.entry.Entry.{Entry}
 use Rattle.heap_model.specs.declared.entry.Entry.TheVariants.{Said}
 use Rattle.heap_model.specs.declared.heap.Heap.{Heap}
 use Rattle.heap_model.specs.Board.{board_fields}
-use Rattle.heap_model.specs.Limits.{stamp_limit}
+use Rattle.heap_model.specs.Limits.{set_limit}
 use Rattle.heap_model.specs.Logs.{log_of}
 use Rattle.heap_model.specs.graph.Changes.{set_stamp}
 use Rattle.heap_model.specs.graph.Legal.{IsObjectLegal}
@@ -18,7 +18,7 @@ use Rattle.heap_queue.specs.Places.{Place}
 
 -- the stamp is that of a set of this seat
 abbrev pub IsStampOf : ℕ → ℕ → Type 0
-IsStampOf number stamp = (n : ℕ) × (0 < n) × (n < stamp_limit) × (stamp ≡ set_stamp number n)
+IsStampOf number stamp = (n : ℕ) × (0 < n) × (n < set_limit) × (stamp ≡ set_stamp number n)
 
 -- the stamp is that of a set of another one of so many seats
 abbrev pub IsForeign : ℕ → ℕ → ℕ → Type 0

@@ -8,6 +8,7 @@ use Rattle.heap_model.specs.Needs.{record_fragments}
 use Rattle.heap_model.specs.declared.entry.Entry.{Entry}
 use Rattle.heap_model.specs.declared.heap.Heap.{Heap}
 use Rattle.heap_model.specs.graph.Legal.{IsObjectLegal}
+use Rattle.log_merge.specs.FewSets.{HaveFewSets}
 use Rattle.heap_table.specs.SeatHeld.{SeatHeld}
 use Rattle.collector_turns.specs.Collector.{CollectorValue}
 use Rattle.heap_runs.specs.CollectCall.{IsPresent}
@@ -47,7 +48,7 @@ pub record MayRunQueue (seats : List SeatHeld) (collector : CollectorValue) (scr
   pub fit : All IsQueueScript scripts
   pub board : 2 ≤ collector.holder.heap.board
 
--- each seat has served its script and left; the logs of the closed table are those of the seats, in the order of their numbers, and that of the collector, which has gone on; each legal
+-- each seat has served its script and left; the logs of the closed table are those of the seats, in the order of their numbers, and that of the collector, which has gone on, and each has few sets; each legal
 -- history with exactly these logs is one of the queue that the first seat makes; one such history is there, the words stand for it, and at its end nothing is in use
 pub record IsQueueRan (scripts : List (List QueueCommand)) (collector : CollectorValue) (ran : QueueRan) : Type 0 where
   pub of_heap : ran.closed.heap ≡ collector.holder.heap
@@ -55,6 +56,7 @@ pub record IsQueueRan (scripts : List (List QueueCommand)) (collector : Collecto
   pub numbered : map (λ seat. seat.number) seats ≡ range_with_len 0 collector.holder.heap.seats
   pub served : All (λ seat. HasServed seat.number (script_at scripts seat.number) seat.seat.mine) seats
   pub logs : HasLogs seats collector.holder.known.collector.log ran.closed
+  pub few : HaveFewSets ran.closed.logs
   pub orders : (history : List Entry) → IsObjectLegal collector.holder.heap history → ran.closed.logs ≡ logs_of collector.holder.heap history → IsQueueHistory collector.holder.heap 0 history
   pub unused : EndsUnused ran.closed
 

@@ -98,7 +98,7 @@ pub record HasCome (number : ℕ) (script : List QueueCommand) (log : List Entry
   pub log_is : log ≡ opening ++ serving
   pub leads : Leads (start 0 number) log Rests (first_calls number ++ calls)
 
--- the seat hasn't left, and has names and stamps left for so many puts
+-- the seat hasn't left, has names left for so many puts, and does by them fewer sets than it has stamps
 pub record HasLeftFor (puts : ℕ) (seat : SeatState) : Type 0 where
   pub present : (own_graph_seat seat).left ≡ false
   pub names : length (own_graph_seat seat).objects + puts < name_limit

@@ -120,8 +120,8 @@ impl<N: HeldName> SeatCalls for TableSeat<N> {
         self.seat.names_left()
     }
 
-    fn stamps_left(&self) -> u32 {
-        self.seat.stamps_left()
+    fn sets_left(&self) -> u64 {
+        self.seat.sets_left()
     }
 
     fn left(&self) -> bool {

@@ -7,6 +7,7 @@ pub mod CallEntries
 pub mod Calling
 pub mod CollectEnds
 pub mod Collecting
+pub mod FewSets
 pub mod Finished
 pub mod Folding
 pub mod CommandsOn

@@ -3,7 +3,7 @@ use Rattle.std.proofs.Common.{◌≡◌, ℕ, ◌+◌, ◌<◌, ◌⊎◌, List,
 use Rattle.std.specs.List.{All, AllByRecursion}
 use Rattle.std.proofs.lemmas.List.Elements.{All-append, All-push, All-weaker, All-from_recursion}
 use Rattle.heap_model.specs.Command.{IsCommand}
-use Rattle.heap_model.specs.Limits.{stamp_limit}
+use Rattle.heap_model.specs.Limits.{set_limit}
 use Rattle.heap_model.specs.calls.SeatLaws.{IsOwn}
 use Rattle.heap_model.specs.declared.command.Command.{Command}
 use Rattle.heap_model.specs.declared.command.Command.TheVariants as commands
@@ -66,7 +66,7 @@ module _ (tells : Step → ℕ → Type 0) (heap : Heap) (number : ℕ) (before 
   call_counts_so command (replies.SpineFull need used) is = same_counts command _ is.keeps refl refl
 
 -- one that may be begun has a stamp left
-stamp_left : (made sets : ℕ) (command : Command) → PutsWord command → HasNumberLeft made sets command → sets + 1 < stamp_limit
+stamp_left : (made sets : ℕ) (command : Command) → PutsWord command → HasNumberLeft made sets command → sets + 1 < set_limit
 stamp_left made sets (commands.Set r i v) puts left = left
 stamp_left made sets (commands.Cas r i a v) puts left = left
 stamp_left made sets _ (inl a_set) left = absurd a_set
@@ -92,7 +92,7 @@ seat_rests_after_call old new command reply may call sound told = record {
   between = record {
     idle = call.over;
     own = subst (λ (n : ℕ). All (IsOwn n) new.seat.mine) (sym call.makes.number_stays) (subst (All (IsOwn old.number)) (sym call.told) (call_own old.number command reply old.seat.mine call.first may.in_range call.beside call.rested.between.own));
-    stamps = elim counts.sets as (λ _. new.seat.sets < stamp_limit) [
+    stamps = elim counts.sets as (λ _. new.seat.sets < set_limit) [
       | inl same ↦ omega (arith, same, call.rested.between.stamps)
       | inr more ↦ omega (arith, more.1, stamp_left old.seat.made old.seat.sets command more.0 may.numbered)
     ];

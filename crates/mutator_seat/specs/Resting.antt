@@ -1,6 +1,6 @@
 -- A seat between two calls, and what the trait of a seat's calls sees of it.
 use Rattle.std.specs.Prelude.{◌≡◌, ◌<◌, All}
-use Rattle.heap_model.specs.Limits.{stamp_limit}
+use Rattle.heap_model.specs.Limits.{set_limit}
 use Rattle.heap_model.specs.calls.SeatLaws.{IsOwn}
 use Rattle.heap_model.specs.calls.SeatState.{SeatState}
 use Rattle.core_machine.specs.declared.point.Point.TheVariants.{Idle}
@@ -20,7 +20,7 @@ MakesRoom old new = new ≡ record old { spare = new.spare }
 pub record IsBetweenCalls (held : SeatHeld) : Type 0 where
   pub idle : held.seat.point ≡ Idle
   pub own : All (IsOwn held.number) held.seat.mine
-  pub stamps : held.seat.sets < stamp_limit
+  pub stamps : held.seat.sets < set_limit
 
 -- and its data fit together, and are what its own list tells
 pub record Rests (held : SeatHeld) : Type 0 where

@@ -26,7 +26,8 @@ use Rattle.reply_text.specs.Written.{HasText, IsSpelled}
 use Rattle.reply_text.proofs.read_lemmas.CommandReading.{scripted_command_is_spelled}
 use Rattle.log_merge.specs.Legal.{AreLegal}
 use Rattle.log_merge.proofs.merge_lemmas.Finding.{present_seat_is_there}
-use Rattle.log_merge.proofs.merge_lemmas.Rests.{seat_count_after_entry, seat_count_at_opening}
+use Rattle.log_merge.proofs.merge_lemmas.Changes.{seat_count_after_entry}
+use Rattle.log_merge.proofs.merge_lemmas.Rests.{seat_count_at_opening}
 use Rattle.schism_program.specs.Running.{IsRunOf, seat_commands}
 
 -- what holds of all holds of those behind

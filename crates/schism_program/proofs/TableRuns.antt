@@ -1,11 +1,13 @@
 -- What a run on a shared table came to is a run of the script.
-use Rattle.std.proofs.Common.{◌≡◌, ℕ, suc, ◌+◌, ◌<◌, ◌≤◌, Bool, true, false, if◌then◌else◌, List, [], ◌∷◌, ◌++◌, length, map, filter, Some, inl, inr, refl, sym, ap, subst, ◌∙◌, arith}
+use Rattle.std.proofs.Common.{◌≡◌, ℕ, suc, ◌+◌, ◌<◌, ◌≤◌, Bool, true, false, if◌then◌else◌, List, [], ◌∷◌, ◌++◌, count_by, length, map, filter, Some, inl, inr, refl, sym, ap, subst, ◌∙◌, arith}
 use Rattle.std.specs.Prelude.{All, slice_get}
 use Rattle.std.specs.List.{AllByRecursion, range_with_len}
 use Rattle.std.proofs.lemmas.Bool.Decides.{eqb_tells}
 use Rattle.std.proofs.lemmas.List.Concat.{flat_map-cons}
 use Rattle.std.proofs.lemmas.List.Elements.{recursion_from_All}
+use Rattle.std.proofs.lemmas.List.Sums.{count_by-le-length, sum_by-append}
 use Rattle.atomic_table.specs.Seated.{TableId}
+use Rattle.heap_model.specs.Limits.{stamp_limit}
 use Rattle.heap_model.specs.Logs.{logs_of}
 use Rattle.heap_model.specs.account.Effects.{is_of}
 use Rattle.heap_model.specs.account.Noting.{is_collectors}
@@ -22,6 +24,8 @@ use Rattle.core_machine.specs.seat.Seat.{Seat}
 use Rattle.heap_table.specs.Closed.{ClosedTable, HasOneHistory}
 use Rattle.heap_table.specs.Opened.{IsOpened}
 use Rattle.heap_table.specs.SeatHeld.{SeatHeld}
+use Rattle.log_merge.specs.FewSets.{HaveFewSets}
+use Rattle.log_merge.proofs.SetCounts.{few_by_parts, is_setting, sets_are_told}
 use Rattle.log_merge.proofs.SameLogs.{snoc_is_injective, same_totals, keep_each_others_logs}
 use Rattle.script_text.specs.declared.script.Script.{Script}
 use Rattle.script_text.specs.Words.{preamble_of}
@@ -138,3 +142,18 @@ module _ (patience : ℕ) (scripts : List (List Command)) (script : Script) (clo
   -- and the table's
   pub merged_is_of_table : IsOfTable (merged_history (preamble_of script) merged) closed
   merged_is_of_table = record { heap_is = heap_is; logs_are = kept; unused = unused }
+
+-- a script's seats have few sets in their logs, since a script has fewer commands than a seat has stamps
+pub logs_have_few_sets : (patience : ℕ) (scripts : List (List Command)) (script : Script) (closed : ClosedTable) (olds news : List SeatHeld) → closed.heap ≡ script.heap → EndsUnused closed
+    → HasLogs news [] closed → map (λ held. held.number) olds ≡ range_with_len 0 script.heap.seats → length olds ≡ script.heap.seats → AllByRecursion HasToldNone olds → HaveWorked patience scripts olds news
+    → ((number : ℕ) → number < script.heap.seats → length (script_at scripts number) < stamp_limit) → HaveFewSets closed.logs
+logs_have_few_sets patience scripts script closed olds news heap_is unused logs numbers many none worked short =
+    let one = unused.one in
+    let kept : closed.logs ≡ logs_of script.heap one.history = one.logs_are ∙ ap (λ (h : Heap). logs_of h one.history) heap_is in
+    let legal : IsObjectLegal script.heap one.history = subst (λ (h : Heap). IsObjectLegal h one.history) heap_is one.legal.objects in
+    few_by_parts script.heap one.history closed.logs kept (λ number within.
+    let told = ap (count_by is_setting) (commands_are patience scripts script closed one.history olds news heap_is legal kept unused logs numbers many none worked number within) in
+    let sum = sum_by-append (λ (c : Command). if is_setting c then 1 else 0) (script_at scripts number) (Leave ∷ []) in
+    let most = count_by-le-length is_setting (script_at scripts number) in
+    let all = short number within in
+    omega (arith, told, sum, most, all, sets_are_told number one.history))

@@ -1,6 +1,7 @@
 ghost use Rattle.std.specs.Prelude.{◌≡◌, ◌<◌, ℕ, true, length, Err, IfOk};
 ghost use Rattle.heap_model.specs.Heap.{IsHeap};
 ghost use Rattle.heap_runs.specs.Finishing.{EndsUnused};
+ghost use Rattle.log_merge.specs.FewSets.{HaveFewSets};
 ghost use Rattle.script_text.specs.declared.cause.LineFault.{LineFault as ALineFault};
 ghost use Rattle.script_crew.specs.CrewText.{IsCrewText, IsOfCrew};
 ghost use Rattle.script_crew.specs.Jobs.{AreJobs};
@@ -43,6 +44,7 @@ fn merged_text(alloc: Global, heap: Heap, closed: &Closed) -> Result<Vec<u8>, Me
     requires heap { IsHeap heap }
     requires of_heap { closed.now.heap ≡ heap }
     requires unused { EndsUnused closed.now }
+    requires few { HaveFewSets closed.now.logs }
     ensures { IfOk result (λ text. TellsLogs heap text.items closed.now) }
 {
     let entries = merge(alloc, closed.logs(), heap)?;

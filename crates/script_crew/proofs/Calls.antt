@@ -28,8 +28,8 @@ use Rattle.script_crew.proofs.SameLists.{sum_by-map}
 number_left : (seat : SeatHeld) (command : Command) → objects_of seat + 1 < name_limit → sets_of seat + 1 < stamp_limit → HasNumber (seat_state seat) command
 number_left seat (commands.New d fields) names stamps = names
 number_left seat (commands.Array d cells) names stamps = names
-number_left seat (commands.Set r i v) names stamps = stamps
-number_left seat (commands.Cas r i a v) names stamps = stamps
+number_left seat (commands.Set r i v) names stamps = omega (arith, stamps)
+number_left seat (commands.Cas r i a v) names stamps = omega (arith, stamps)
 number_left seat _ names stamps = tt
 
 -- who may make all commands of a script, and has made fewer, may make one more
@@ -111,7 +111,7 @@ calls_by_position jobs =
     sym (sum_by-map same (calls_at jobs) (positions_of jobs)) ∙ (ap (sum_by same) all ∙ sum_by-map same calls_of jobs)
 
 -- they are fewer than a seat has stamps
-few_calls : (jobs : List Job) → length jobs ≤ 4096 → command_count jobs ≤ 1048576 → sum_by (calls_at jobs) (positions_of jobs) < stamp_limit
+pub few_calls : (jobs : List Job) → length jobs ≤ 4096 → command_count jobs ≤ 1048576 → sum_by (calls_at jobs) (positions_of jobs) < stamp_limit
 few_calls jobs count few = omega (arith, calls_by_position jobs, calls_of_all jobs, count, few)
 
 -- the calls at a position are those of the job there

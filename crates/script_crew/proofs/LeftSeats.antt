@@ -1,5 +1,5 @@
 -- Seats that have left keep their runs, and have gone.
-use Rattle.std.proofs.Common.{◌≡◌, ℕ, ◌<◌, List, [], ◌∷◌, ◌++◌, length, get_or, sym, ap, subst, ◌∙◌, arith}
+use Rattle.std.proofs.Common.{◌≡◌, ℕ, ◌<◌, ◌≤◌, List, [], ◌∷◌, ◌++◌, length, get_or, sym, ap, subst, ◌∙◌, arith}
 use Rattle.std.specs.Prelude.{All}
 use Rattle.std.proofs.lemmas.List.{get_or_default}
 use Rattle.std.proofs.lemmas.List.Elements.{All-get_or, All-head, All-tail, All-weaker, AllZip-get_or, length_all_zip}
@@ -7,13 +7,18 @@ use Rattle.std.proofs.lemmas.Option.{get_or_from_slice_get, slice_get_within}
 use Rattle.atomic_table.specs.Seated.{TableId}
 use Rattle.heap_model.specs.declared.command.Command.TheVariants.{Leave}
 use Rattle.heap_model.specs.declared.heap.Heap.{Heap}
+use Rattle.heap_model.specs.declared.entry.Entry.{Entry}
+use Rattle.heap_model.specs.graph.Growth.{graph_after}
+use Rattle.heap_model.specs.graph.Objects.{graph_seat, opening}
+use Rattle.log_merge.proofs.SetCounts.{sets_grow_as_told}
 use Rattle.heap_table.specs.SeatHeld.{SeatHeld}
 use Rattle.heap_runs.specs.CollectCall.{IsPresent}
 use Rattle.heap_runs.specs.Finishing.{HasGone}
-use Rattle.heap_runs.specs.SeatWork.{IsOfTable}
+use Rattle.heap_runs.specs.SeatWork.{IsOfTable, sets_of}
 use Rattle.heap_runs.proofs.RunsEnd.{has_gone, same_numbers}
 use Rattle.script_crew.specs.declared.job.Job.{Job}
 use Rattle.script_crew.specs.declared.job.JobRun.{JobRun}
+use Rattle.script_crew.specs.Jobs.{HasFewSets}
 use Rattle.script_crew.specs.Leaving.{HasLeft, HaveLeft}
 use Rattle.script_crew.specs.Runs.{seat_numbers, AreWhole, IsRunAmong, IsRunOn}
 use Rattle.script_crew.proofs.Running.{run_stays}
@@ -22,6 +27,17 @@ use Rattle.script_crew.proofs.Running.{run_stays}
 pub next_is_present : (before behind : List SeatHeld) (seat : SeatHeld) → All IsPresent (before ++ seat ∷ behind) → IsPresent seat
 next_is_present [] behind seat all = All-head IsPresent seat behind all
 next_is_present (one ∷ before) behind seat all = next_is_present before behind seat (All-tail IsPresent one (before ++ seat ∷ behind) all)
+
+-- who leaves does no set more
+sets_stay_by_leave : (old new : SeatHeld) → HasLeft old new → sets_of new ≤ sets_of old
+sets_stay_by_leave old new left =
+    let made = left.made in
+    let more = sets_grow_as_told old.heap old.seat.mine made.part old.number (Leave ∷ []) made.answered in
+    let same : sets_of new ≡ (graph_seat (graph_after (opening old.heap) (old.seat.mine ++ made.part)) old.number).sets =
+    ap (λ h. (graph_seat (graph_after (opening h) new.seat.mine) new.number).sets) made.heap_stays
+    ∙ ap (λ (l : List Entry). (graph_seat (graph_after (opening old.heap) l) new.number).sets) made.mine
+    ∙ ap (λ n. (graph_seat (graph_after (opening old.heap) (old.seat.mine ++ made.part)) n).sets) made.number_stays in
+    omega (arith, same, more)
 
 module _ (olds news : List SeatHeld) (left : HaveLeft olds news) where
   as_many : length olds ≡ length news
@@ -42,6 +58,13 @@ module _ (olds news : List SeatHeld) (left : HaveLeft olds news) where
       let within : k < length olds = omega (arith, few, as_many) in
       let one = one_left k d within in
       has_gone 1 table heap (get_or olds k d) (get_or news k d) [] (All-get_or (IsOfTable table heap) olds k d within of_table) one.made one.left
+
+  -- each has done as few sets as it had
+  pub few_still : All HasFewSets olds → All HasFewSets news
+  few_still all k d few =
+      let within : k < length olds = omega (arith, few, as_many) in
+      let had : HasFewSets (get_or olds k d) = All-get_or HasFewSets olds k d within all in
+      omega (arith, had, sets_stay_by_leave (get_or olds k d) (get_or news k d) (one_left k d within))
 
   run_among : (jobs : List Job) (run : JobRun) → IsRunAmong jobs olds run → IsRunAmong jobs news run
   run_among jobs run ran =

@@ -1,12 +1,14 @@
 -- A crew begins with fresh seats, and ends with whole runs.
-use Rattle.std.proofs.Common.{◌≡◌, ℕ, ◌<◌, List, [], ◌∷◌, ◌++◌, length, map, get_or, set, sym, ap, subst, ◌∙◌, arith}
+use Rattle.std.proofs.Common.{◌≡◌, ℕ, ◌+◌, ◌<◌, List, [], ◌∷◌, ◌++◌, length, map, get_or, set, sym, ap, subst, ◌∙◌, arith}
 use Rattle.std.specs.Prelude.{All, IsPermutation, Option, sum_by}
 use Rattle.std.specs.List.{range_with_len}
 use Rattle.std.specs.List.Sorted.{IsNonDecreasingBy, IsStrictlyIncreasing}
 use Rattle.std.proofs.lemmas.List.{length-map, get_or-map}
 use Rattle.std.proofs.lemmas.List.FromFn.{length-range_with_len}
+use Rattle.std.proofs.lemmas.List.Sums.{sum_by-append}
 use Rattle.std.proofs.lemmas.List.Elements.{All-cons, All-tail, All-weaker, All-get_or}
 use Rattle.atomic_table.specs.Seated.{TableId}
+use Rattle.heap_model.specs.Limits.{stamp_limit}
 use Rattle.heap_model.specs.declared.heap.Heap.{Heap}
 use Rattle.crossbeam_queue.specs.declared.array_queue.Doing.{Doing}
 use Rattle.crossbeam_queue.specs.declared.array_queue.Slotted.{Slotted}
@@ -19,8 +21,10 @@ use Rattle.script_crew.specs.declared.job.JobRun.{JobRun}
 use Rattle.script_crew.specs.declared.position_rule.Tally.{Tally}
 use Rattle.script_crew.specs.declared.worker.Worker.{Worker}
 use Rattle.script_crew.specs.Crews.{IsFreshSeat}
+use Rattle.script_crew.specs.Jobs.{calls_at, AreJobs, HasFewSets}
 use Rattle.script_crew.specs.Runs.{job_numbers, seat_numbers, AreWhole}
 use Rattle.script_crew.specs.Working.{positions_of, HasFreshPass, HasRun, HasRunAll, HaveRun, IsAtWork, IsFresh}
+use Rattle.script_crew.proofs.Calls.{few_calls}
 use Rattle.script_crew.proofs.Joining.{numbers_stay, runs_are_whole}
 use Rattle.script_crew.proofs.Running.{stays_of_table}
 
@@ -75,17 +79,37 @@ module _ (jobs : List Job) (table : TableId) (heap : Heap) (first old : Tally) (
     set_first P [] all one = all
     set_first P (x ∷ xs) all one = All-cons P after xs one (All-tail P x xs all)
 
+    -- all runs together make fewer calls than a seat has stamps
+    enough : first.pushed ≡ positions_of jobs → sum_by (calls_at jobs) new.popped ≡ sum_by (calls_at jobs) new.pushed → AreJobs jobs
+        → sum_by (calls_at jobs) had.positions + sum_by (calls_at jobs) ran.positions < stamp_limit
+    enough pushed popped fit =
+        let calls = sum_by (calls_at jobs) in
+        omega (
+          arith,
+          popped,
+          ap (λ (one : Tally). calls one.popped) ran.popped,
+          sum_by-append (calls_at jobs) old.popped ran.positions,
+          ap (λ (one : Tally). calls one.popped) had.popped,
+          ap (λ (one : Tally). calls one.pushed) ran.popped,
+          ap (λ (one : Tally). calls one.pushed) had.popped,
+          ap calls pushed,
+          few_calls jobs fit.count fit.commands,
+        )
+
     -- once the queue was empty for the pass that has every share, all jobs were run
     pub has_run_all : (later : Crew) → first.pushed ≡ positions_of jobs → ((measure : ℕ → ℕ) → sum_by measure new.popped ≡ sum_by measure new.pushed)
         → later.seats.items ≡ set crew.seats.items 0 after → IsPermutation (crew.runs.items ++ rest) later.runs.items → IsNonDecreasingBy (λ run. run.job) later.runs.items
-        → IsStrictlyIncreasing (job_numbers jobs) → HasRunAll jobs table heap n later
-    has_run_all later pushed popped seats_are moved up rising = record {
+        → AreJobs jobs → HasRunAll jobs table heap n later
+    has_run_all later pushed popped seats_are moved up fit = record {
       whole = subst (λ seats. AreWhole jobs seats later.runs.items) (sym seats_are)
-          (runs_are_whole jobs table heap first old new n crew before after rest later.runs.items pushed had some is ran popped moved up rising);
+          (runs_are_whole jobs table heap first old new n crew before after rest later.runs.items pushed had some is ran popped moved up fit.rising);
       numbered = ap seat_numbers seats_are ∙ (numbers_stay crew.seats.items before after some is ran.goes_on.made.number_stays ∙ had.numbered);
       of_table = subst (All (IsOfTable table heap)) (sym seats_are) (set_first (IsOfTable table heap) crew.seats.items
           (All-weaker (IsAtWork jobs table heap had.positions) (IsOfTable table heap) (λ seat work. work.of_table) crew.seats.items had.at_work)
           (stays_of_table table heap before after ran.commands first_at_work.of_table ran.goes_on));
       present = subst (All IsPresent) (sym seats_are) (set_first IsPresent crew.seats.items
           (All-weaker (IsAtWork jobs table heap had.positions) IsPresent (λ seat work. work.present) crew.seats.items had.at_work) ran.goes_on.present);
+      few = subst (All HasFewSets) (sym seats_are) (set_first HasFewSets crew.seats.items
+          (All-weaker (IsAtWork jobs table heap had.positions) HasFewSets (λ seat work. omega (arith, work.used.sets, enough pushed (popped (calls_at jobs)) fit)) crew.seats.items had.at_work)
+          (omega (arith, first_at_work.used.sets, ran.goes_on.sets, ran.calls, enough pushed (popped (calls_at jobs)) fit, ap (λ (one : Tally). sum_by (calls_at jobs) one.popped) had.popped)));
     }

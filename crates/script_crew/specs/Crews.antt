@@ -3,6 +3,7 @@ use Rattle.std.specs.Prelude.{◌≡◌, List, All}
 use Rattle.std.specs.List.{range_with_len}
 use Rattle.atomic_table.specs.Seated.{TableId}
 use Rattle.heap_model.specs.declared.heap.Heap.{Heap}
+use Rattle.log_merge.specs.FewSets.{HaveFewSets}
 use Rattle.heap_table.specs.SeatHeld.{SeatHeld}
 use Rattle.collector_turns.specs.Collector.{CollectorValue}
 use Rattle.heap_runs.specs.CollectCall.{IsPresent}
@@ -24,7 +25,7 @@ pub record IsCrew (seats : List SeatHeld) (collector : CollectorValue) : Type 0 
   pub numbered : seat_numbers seats ≡ range_with_len 0 collector.holder.heap.seats
   pub fresh : All (IsFreshSeat collector.holder.table collector.holder.heap) seats
 
--- the runs of the jobs are whole on the seats whose logs stand in the closed table, in the order of the seats' numbers and before that of the collector, which has gone on; one legal
+-- the runs of the jobs are whole on the seats whose logs stand in the closed table, in the order of the seats' numbers and before that of the collector, which has gone on; each log has few sets; one legal
 -- history has exactly these logs, the words stand for it, and at its end nothing is in use
 pub record IsCrewRan (jobs : List Job) (collector : CollectorValue) (ran : CrewRan) : Type 0 where
   pub of_heap : ran.closed.heap ≡ collector.holder.heap
@@ -32,4 +33,5 @@ pub record IsCrewRan (jobs : List Job) (collector : CollectorValue) (ran : CrewR
   pub numbered : seat_numbers seats ≡ range_with_len 0 collector.holder.heap.seats
   pub whole : AreWhole jobs seats ran.runs.items
   pub logs : HasLogs seats collector.holder.known.collector.log ran.closed
+  pub few : HaveFewSets ran.closed.logs
   pub unused : EndsUnused ran.closed

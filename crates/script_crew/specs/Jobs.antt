@@ -1,6 +1,7 @@
 -- Which jobs a crew is given, and how many calls they come to.
-use Rattle.std.specs.Prelude.{◌≢◌, ℕ, ◌≤◌, List, ◌++◌, length, map, slice_index, sum_by, All}
+use Rattle.std.specs.Prelude.{◌≢◌, ℕ, ◌<◌, ◌≤◌, List, ◌++◌, length, map, slice_index, sum_by, All}
 use Rattle.std.specs.List.Sorted.{IsStrictlyIncreasing}
+use Rattle.heap_model.specs.Limits.{stamp_limit}
 use Rattle.heap_model.specs.declared.command.Command.{Command}
 use Rattle.heap_model.specs.declared.command.Command.TheVariants.{Collect}
 use Rattle.heap_runs.specs.SeatWork.{IsOfScript, objects_of, sets_of}
@@ -34,6 +35,10 @@ script_of_run job = clears ++ with_polls job.commands.items
 -- how many calls a run of the job at this position makes
 abbrev pub calls_at : List Job → ℕ → ℕ
 calls_at jobs position = slice_index (map (λ job. length (script_of_run job)) jobs) position
+
+-- the seat has done fewer sets than it has stamps
+abbrev pub HasFewSets : SeatHeld → Type 0
+HasFewSets seat = sets_of seat < stamp_limit
 
 -- the seat has made at most as many objects, and done at most as many sets, as runs of the jobs at these positions make calls
 pub record HasUsed (jobs : List Job) (positions : List ℕ) (seat : SeatHeld) : Type 0 where

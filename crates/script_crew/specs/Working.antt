@@ -17,7 +17,7 @@ use Rattle.script_crew.specs.declared.position_rule.Tally.{Tally}
 use Rattle.script_crew.specs.declared.gathering.Crew.{Crew}
 use Rattle.script_crew.specs.declared.worker.Worker.{Worker}
 use Rattle.script_crew.specs.declared.worker.Worked.{Worked}
-use Rattle.script_crew.specs.Jobs.{calls_at, HasUsed}
+use Rattle.script_crew.specs.Jobs.{calls_at, HasFewSets, HasUsed}
 use Rattle.script_crew.specs.Positions.{tally}
 use Rattle.script_crew.specs.Runs.{job_numbers, run_numbers, seat_numbers, EndsBefore, IsRunOn, IsRunAmong, AreWhole}
 
@@ -58,12 +58,13 @@ pub record HaveRun (jobs : List Job) (table : TableId) (heap : Heap) (old : Tall
   pub each : All (IsRunAmong jobs crew.seats.items) crew.runs.items
   pub in_turn : AllPairs EndsBefore crew.runs.items
 
--- each job has one run, whole; and each seat of the crew, which has so many in the order of their numbers, is one of the table and hasn't left
+-- each job has one run, whole; and each seat of the crew, which has so many in the order of their numbers, is one of the table, hasn't left, and has done fewer sets than it has stamps
 pub record HasRunAll (jobs : List Job) (table : TableId) (heap : Heap) (count : ℕ) (crew : Crew) : Type 0 where
   pub whole : AreWhole jobs crew.seats.items crew.runs.items
   pub numbered : seat_numbers crew.seats.items ≡ range_with_len 0 count
   pub of_table : All (IsOfTable table heap) crew.seats.items
   pub present : All IsPresent crew.seats.items
+  pub few : All HasFewSets crew.seats.items
 
 module _ {Q A : Type 0} where
   -- the worker's pass is one of the queue, has one share, and has popped nothing

@@ -10,7 +10,7 @@ ghost use Rattle.heap_model.specs.graph.Legal.{IsObjectLegal};
 use super::comparing::same;
 use super::swaps::{FIRST, READ, swap};
 use heap_model::{Command, Entry, Graph, Heap, Memory, Reply, Value};
-use log_merge::merge;
+use log_merge::{have_few_sets, merge};
 use reply_text::read_history;
 use std::alloc::Global;
 use std::process::Abort;
@@ -73,6 +73,9 @@ fn merged(alloc: Global, heap: Heap, entries: &[Entry]) -> Result<Vec<Entry>, Fa
 {
     accept(alloc, heap, entries)?;
     let logs = logs_of(alloc, heap, entries)?;
+    if !have_few_sets(logs.as_slice()) {
+        return Err("more sets than stamps".into());
+    }
     Ok(merge(alloc, logs.as_slice(), heap)?)
 }
 

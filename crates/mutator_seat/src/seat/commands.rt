@@ -14,7 +14,7 @@ use crate::answers::{
 };
 use crate::seat::Seat;
 use core_machine::ShowsLast;
-use heap_model::limits::STAMP_LIMIT;
+use heap_model::limits::SET_LIMIT;
 use heap_model::{
     Command, Full, Id, Memory, NoObject, PlaceRefusal, SeatCalls, SpaceRefusal, Swapped, Value,
 };
@@ -154,8 +154,8 @@ impl<L: ShowsLast> SeatCalls for Seat<L> {
         u32::MAX - self.holder.made()
     }
 
-    fn stamps_left(&self) -> u32 {
-        STAMP_LIMIT - 1 - self.holder.party().sets()
+    fn sets_left(&self) -> u64 {
+        SET_LIMIT - 1 - self.holder.party().sets()
     }
 
     fn left(&self) -> bool {

@@ -12,7 +12,7 @@ use heap_queue::{
     PutReply, QueueFault, QueueRan, QueueScript, TakeReply, Told, ToldCall, read_queue, run_queue,
     scripts_of, tell_calls,
 };
-use log_merge::merge;
+use log_merge::{have_few_sets, merge};
 use slack_pace::{Pace, Steady};
 use std::alloc::{AllocError, Global};
 use std::process::Abort;
@@ -45,12 +45,15 @@ fn ran_by<G: Gate, R: Threads + Wait + Sync>(
 }
 
 /// What an order of the logs tells of each put and take.
-fn told(alloc: Global, heap: Heap, ran: &QueueRan) -> Result<Vec<ToldCall>, Memory>
+fn told(alloc: Global, heap: Heap, ran: &QueueRan) -> Result<Vec<ToldCall>, Fail>
     requires heap { IsHeap heap }
     requires of_heap { ran.now.closed.heap ≡ heap }
 {
+    if !have_few_sets(ran.closed.logs()) {
+        return Err("more sets than stamps")?;
+    }
     let history = merge(alloc, ran.closed.logs(), heap)?;
-    tell_calls(alloc, heap, history.as_slice())
+    Ok(tell_calls(alloc, heap, history.as_slice())?)
 }
 
 /// What the puts and takes of the queue of this text come to.
@@ -64,7 +67,7 @@ fn calls_of<R: Threads + Wait + Sync>(
     let Ok(ran) = ran_by(rt, alloc, &script, pace, &OpenGate) else {
         return Err("a run")?;
     };
-    Ok(told(alloc, script.heap, &ran)?)
+    told(alloc, script.heap, &ran)
 }
 
 /// The fault of a run of the queue of this text, if it has one.

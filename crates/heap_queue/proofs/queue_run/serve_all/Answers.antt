@@ -5,9 +5,10 @@ use Rattle.atomic_table.specs.Seated.{TableId}
 use Rattle.heap_model.specs.declared.entry.Entry.{Entry}
 use Rattle.heap_model.specs.declared.heap.Heap.{Heap}
 use Rattle.heap_runs.specs.Finishing.{HasGone, HasLogs}
+use Rattle.heap_runs.proofs.FewSets.{logs_have_few_sets}
 use Rattle.heap_runs.proofs.RunsEnd.{has_logs_from_before}
 use Rattle.heap_queue.specs.declared.queue_command.QueueCommand.{QueueCommand}
-use Rattle.heap_queue.proofs.ServedSeats.{numbers_stay, all_gone, all_served, is_queue_history}
+use Rattle.heap_queue.proofs.ServedSeats.{numbers_stay, all_few, all_gone, all_served, is_queue_history}
 use Rattle.heap_queue.proofs.queue_run.serve_all.Goals as goal
 
 pub finish-requires-clause-gone : goal.finish-requires-clause-gone
@@ -42,5 +43,7 @@ returns g c =
           (has_logs_from_before g.N.HeldName.table g.N.HeldName.heap g.N.HeldName.before c.into_inner-collector.result.collector seats c.in_ok-closed.closed run ended.logs);
       orders = λ history legal same.
           is_queue_history c.args.collector.holder.heap scripts seats numbered served _ history legal (sym ended.logs.logs_are ∙ same) c.requires.some;
+      few = logs_have_few_sets g.N.HeldName.table g.N.HeldName.heap seats _ c.in_ok-closed.closed (ended.heap ∙ run.heap_is) (numbered ∙ ap (λ (h : Heap). range_with_len 0 h.seats) c.requires.heap) ended.logs
+          (all_gone g.N.HeldName.table g.N.HeldName.heap scripts c.args.seats.items seats c.in_ok-seats.ensures) (all_few g.N.HeldName.table g.N.HeldName.heap scripts c.args.seats.items seats c.in_ok-seats.ensures) ended.unused;
       unused = ended.unused;
     }

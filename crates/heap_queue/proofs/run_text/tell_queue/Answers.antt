@@ -1,6 +1,7 @@
 use Rattle.std.proofs.Common.{◌∙◌, List, ap, subst, sym}
 use Rattle.std.proofs.lemmas.Result.{IfOk-weaker}
 use Rattle.heap_model.specs.declared.entry.Entry.{Entry}
+use Rattle.log_merge.specs.FewSets.{HaveFewSets}
 use Rattle.log_merge.specs.Merging.{HasOrder}
 use Rattle.heap_queue.specs.Effects.{effects_of}
 use Rattle.heap_queue.specs.Telling.{effects_in, told_of}
@@ -11,6 +12,9 @@ pub merge-requires-clause-order : goal.merge-requires-clause-order
 merge-requires-clause-order c =
     let run = c.requires.ran in
     subst (λ (logs : List (List Entry)). HasOrder c.args.heap logs) (sym c.logs.ensures.logs) (has_order c.args.heap run.0 c.args.ran.now run.1)
+
+pub merge-requires-clause-few : goal.merge-requires-clause-few
+merge-requires-clause-few c = subst HaveFewSets (sym c.logs.ensures.logs) c.requires.ran.1.whole.few
 
 pub returns : goal.returns
 returns c = λ scripts is.

@@ -12,5 +12,5 @@ returns g c =
     let seat = c.args.seat in
     let served = c.into_seat-seat.ensures in
     let went = subst (λ (h : SeatHeld). GoesOnBy (length script) (λ added. HasCome number script (h.seat.mine ++ added)) (seat_state h) (seat_state c.serve_script.new.seat)) c.new-seat.ensures c.in_ok-serve_script.ensures in
-    has_worked g.N.HeldName.table g.N.HeldName.heap number script seat c.into_seat-seat.result c.leave.new.seat served.of_table c.number-number.ensures
+    has_worked g.N.HeldName.table g.N.HeldName.heap number script seat c.into_seat-seat.result c.leave.new.seat served.of_table c.number-number.ensures c.requires.may.may
     (subst (λ (h : SeatHeld). GoesOnBy (length script) (λ added. HasCome number script (seat.seat.mine ++ added)) (seat_state seat) (seat_state h)) (sym served.seat) went) c.in_ok-leave.ensures

@@ -20,6 +20,7 @@ mod playing;
 mod racing;
 mod swaps;
 mod told;
+mod wrapping;
 
 /// What a seat does that is alone on a heap of one group and six spine words, and how many objects it has made and sets
 /// it has done then. The board leaves 5 fragments.
@@ -135,8 +136,8 @@ fn have_told(
     same(rt, &seat.names_left(), &(u32::MAX - made), &story);
     same(
         rt,
-        &seat.stamps_left(),
-        &67108863u32.saturating_sub(sets),
+        &seat.sets_left(),
+        &0x7fff_ffff_ffff_ffffu64.saturating_sub(u64::from(sets)),
         &story,
     );
     Ok(())

@@ -42,7 +42,7 @@ fn may_call(seat: &Seat, command: &Command) -> bool
     ensures served { IsTrue result → IsServed command.now }
 {
     let room = 2 * command.need() as usize + 4;
-    let counts = seat.names_left() > 0 && seat.stamps_left() > 0;
+    let counts = seat.names_left() > 0 && seat.sets_left() > 0;
     !matches!(command, Command::Collect)
         && command.is_in_range()
         && !seat.left()

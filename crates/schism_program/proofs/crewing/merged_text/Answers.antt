@@ -3,6 +3,7 @@ use Rattle.std.proofs.lemmas.Result.{IfOk-weaker}
 use Rattle.heap_model.specs.Logs.{logs_of}
 use Rattle.heap_model.specs.declared.heap.Heap.{Heap}
 use Rattle.heap_model.specs.graph.Legal.{IsObjectLegal}
+use Rattle.log_merge.specs.FewSets.{HaveFewSets}
 use Rattle.script_text.specs.Text.{text_of}
 use Rattle.script_crew.specs.CrewText.{crew_preamble}
 use Rattle.reply_text.specs.declared.history.History.{History}
@@ -19,6 +20,9 @@ merge-requires-clause-order c =
       legal = subst (λ (h : Heap). IsObjectLegal h one.history) c.requires.of_heap one.legal.objects;
       kept = c.logs.ensures.logs ∙ one.logs_are ∙ ap (λ (h : Heap). logs_of h one.history) c.requires.of_heap;
     }
+
+pub merge-requires-clause-few : goal.merge-requires-clause-few
+merge-requires-clause-few c = subst HaveFewSets (sym c.logs.ensures.logs) c.requires.few
 
 pub returns : goal.returns
 returns c =

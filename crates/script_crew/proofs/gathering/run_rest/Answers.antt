@@ -26,4 +26,4 @@ returns g c =
     let moved = subst (λ runs. IsPermutation runs c.sort_unstable_by_key.new.self.items) c.in_ok-append.ensures.items c.sort_unstable_by_key.ensures.permutation in
     has_run_all c.args.site.now.jobs.now g.N.HeldName.table g.N.HeldName.heap (view c.args.pass.now) (view c.join_all.new.pass) _ crew _ had some c.index_mut.ensures.value (view c.run_popped.new.pass) c.run_popped.new.seat
     c.in_ok-rest.rest.items ran _ (ap (λ (one : Tally). one.pushed) c.requires.pushed) (all_popped (view c.run_popped.new.pass) c.in_ok-rest.ensures.empty every) refl moved
-    (IsNonDecreasingBy-from_sort_by_key (λ (run : JobRun). run.job) _ c.sort_unstable_by_key.ensures.sorted (λ a r q k. search rules)) c.requires.jobs.rising
+    (IsNonDecreasingBy-from_sort_by_key (λ (run : JobRun). run.job) _ c.sort_unstable_by_key.ensures.sorted (λ a r q k. search rules)) c.requires.jobs

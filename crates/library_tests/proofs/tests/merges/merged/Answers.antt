@@ -6,5 +6,5 @@ pub merge-requires-clause-order : goal.merge-requires-clause-order
 merge-requires-clause-order c = record {
   history = c.args.entries.now;
   legal = c.in_ok-accept.ensures;
-  kept = ap (map (λ (log : Vec Entry Global). log.items)) c.as_slice.ensures.value ∙ c.in_ok-logs.ensures;
+  kept = ap (map (λ (log : Vec Entry Global). log.items)) c.as_slice-2.ensures.value ∙ c.in_ok-logs.ensures;
 }

@@ -18,7 +18,7 @@ pub fn may_call<S: SeatCalls>(seat: &S, command: &Command) -> bool
     ensures served { IsTrue result → IsServed command.now }
 {
     let room = 2 * command.need() as usize + 4;
-    let counts = seat.names_left() > 0 && seat.stamps_left() > 0;
+    let counts = seat.names_left() > 0 && seat.sets_left() > 0;
     let served = !matches!(command, Command::Collect) && command.is_in_range();
     served && !seat.left() && seat.spare() >= room && counts
 }

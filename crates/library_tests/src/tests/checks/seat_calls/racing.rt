@@ -11,10 +11,10 @@ use crate::tests::opening::two_seats;
 use crate::tests::swaps::{READ, swap};
 use crate::tests::table::close_two;
 use core_machine::Log;
-use heap_model::limits::STAMP_LIMIT;
+use heap_model::limits::{SET_LIMIT, STAMP_LIMIT};
 use heap_model::{Command, Entry, Heap, Memory, Reply, SeatCalls, Turn};
 use heap_table::{Closed, CollectorHolder};
-use log_merge::merge;
+use log_merge::{have_few_sets, merge};
 use mutator_seat::Seat;
 use std::alloc::Global;
 use std::process::Abort;
@@ -115,14 +115,15 @@ fn race<R: Threads + Sync>(
     Ok((first, second, collector?))
 }
 
-/// How many stamps the seat has used up.
-fn stamps_used(seat: &Seat) -> u32 {
-    STAMP_LIMIT - 1 - seat.stamps_left()
+/// How many sets the seat has done.
+fn sets_done(seat: &Seat) -> u64 {
+    SET_LIMIT - 1 - seat.sets_left()
 }
 
 /// Whether the stamp is that of the last swap of a seat, which has done so many. A stamp has the seat's number and one more.
-fn is_last_of(stamp: u32, seat: u32, swaps: u32) -> bool {
-    stamp / STAMP_LIMIT == seat.saturating_add(1) && stamp % STAMP_LIMIT == swaps
+fn is_last_of(stamp: u32, seat: u32, swaps: u64) -> bool {
+    let count = u64::from(stamp % STAMP_LIMIT);
+    stamp / STAMP_LIMIT == seat.saturating_add(1) && count == swaps % u64::from(STAMP_LIMIT)
 }
 
 /// How many of the entries are a cas and, among these, how many have swapped.
@@ -150,6 +151,9 @@ fn go_together(rt: &impl Abort, alloc: Global, closed: &Closed) -> Result<(), Fa
     requires { IsHeap closed.now.heap }
 {
     let heap = closed.heap();
+    if !have_few_sets(closed.logs()) {
+        return Err("more sets than stamps".into());
+    }
     let merged = merge(alloc, closed.logs(), heap)?;
     accept(alloc, heap, merged.as_slice())?;
     let mut told: usize = 0;
@@ -160,28 +164,28 @@ fn go_together(rt: &impl Abort, alloc: Global, closed: &Closed) -> Result<(), Fa
     Ok(())
 }
 
-/// Each of the seats has made its pairs, and has used up a stamp for each swap.
-fn have_swapped(rt: &impl Abort, closed: &Closed, used: &[u32]) {
-    for (log, used) in closed.logs().iter().zip(used) {
-        let wanted = (PAIRS, *used as usize);
+/// Each of the seats has made its pairs, and has done a set for each swap.
+fn have_swapped(rt: &impl Abort, closed: &Closed, done: &[u64]) {
+    for (log, done) in closed.logs().iter().zip(done) {
+        let wanted = (PAIRS, *done as usize);
         same(rt, &counts(log.as_slice()), &wanted, &"a seat");
     }
 }
 
-/// The field has the stamp of the last swap of one of the seats, which leave then: how many stamps each has used up.
-fn end(rt: &impl Abort, first: &mut Seat, second: &mut Seat) -> Result<[u32; 2], Fail>
+/// The field has the stamp of the last swap of one of the seats, which leave then: how many sets each has done.
+fn end(rt: &impl Abort, first: &mut Seat, second: &mut Seat) -> Result<[u64; 2], Fail>
     ensures first { IsSameSeat first.old first.new }
     ensures second { IsSameSeat second.old second.new }
 {
-    let used = [stamps_used(first), stamps_used(second)];
+    let done = [sets_done(first), sets_done(second)];
     let Some(Reply::Got { stamp, .. }) = called(first, &READ, ROOM)? else {
         return Err("the field".into());
     };
-    let last = is_last_of(stamp, 0, used[0]) || is_last_of(stamp, 1, used[1]);
+    let last = is_last_of(stamp, 0, done[0]) || is_last_of(stamp, 1, done[1]);
     holds(rt, last, &"the field's stamp");
     called(first, &Command::Leave, ROOM)?;
     called(second, &Command::Leave, ROOM)?;
-    Ok(used)
+    Ok(done)
 }
 
 #[test]
@@ -190,11 +194,11 @@ fn two_seats_swap_one_field(rt: HostRuntime) -> Result<(), Fail> {
     let heap = Heap::make(16, 0, 2, 32).ok_or("the limits")?;
     let (first, second, collector) = two_seats::<Log, Log>(alloc, heap)?;
     let (mut first, mut second, collector) = race(&rt, first, second, collector)?;
-    let used = end(&rt, &mut first, &mut second)?;
+    let done = end(&rt, &mut first, &mut second)?;
     let (first, second) = (first.into_holder(), second.into_holder());
     let Some(closed) = close_two(alloc, collector, first, second)? else {
         return Err("a seat hasn't left".into());
     };
-    have_swapped(&rt, &closed, &used);
+    have_swapped(&rt, &closed, &done);
     go_together(&rt, alloc, &closed)
 }

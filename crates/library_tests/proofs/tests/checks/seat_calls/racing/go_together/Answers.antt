@@ -6,10 +6,10 @@ use Rattle.library_tests.proofs.tests.checks.seat_calls.racing.go_together.Goals
 
 pub merge-requires-clause-order : goal.merge-requires-clause-order
 merge-requires-clause-order g c =
-    let one = c.logs.ensures.history in
+    let one = c.logs-2.ensures.history in
     let same = sym c.heap-heap.ensures in
     record {
       history = one.history;
       legal = subst (λ (h : Heap). IsObjectLegal h one.history) same one.legal.objects;
-      kept = c.logs.ensures.logs ∙ one.logs_are ∙ ap (λ (h : Heap). logs_of h one.history) same;
+      kept = c.logs-2.ensures.logs ∙ one.logs_are ∙ ap (λ (h : Heap). logs_of h one.history) same;
     }
