@@ -25,7 +25,7 @@ pub use Rattle.core_machine.specs.declared.table.address.Address.{Address}
 pub use Rattle.core_machine.specs.declared.table.address.Address.TheVariants.{Answer, Budget, Control, Phase, Word}
 pub use Rattle.core_machine.specs.machine.Calls.{AnswersArray, AnswersNew, CountsCall, IsBeside, IsPhaseNear, IsPlaceRefusal, IsRefused, KeepsOwn, LacksSpineWords, LeavesAll, PlaysCall, TellsLeave, free_count, last_reply_of, looks_refused, reply_of, within_reach}
 pub use Rattle.core_machine.specs.machine.Machine.{Begins, BeginsInner, Can, Event, MayBegin, MayBeginInner, Run, State, Steps, Turns, after_begin, after_inner_begin, entries, entries_shown, found_by, history, seat_at, state_after, state_after_all, state_after_due, state_after_move, state_after_turn}
-pub use Rattle.core_machine.specs.machine.Value.{IsMachine, MachineValue, SeatWithRoom, SpendsRoom, forgotten_of, log_of, recent_of, spare_of}
+pub use Rattle.core_machine.specs.machine.Value.{IsMachine, KeepsRoom, MachineValue, SeatWithRoom, SpendsRoom, forgotten_of, log_of, recent_of, spare_of}
 pub use Rattle.core_machine.specs.seat.Access.{access_start, after_get, after_index, after_length, after_link, after_meta, after_name, after_old, after_old_load, after_replace, after_side, after_swap, after_walk, at_access, at_payload, expect_point_of, field_point_of, field_reply_of, guard_point_of, has_barrier_of, meta_reply_of, new_point_of, offer_point_of, part_of, row_of, side_of, side_register_of, way_point_of, with_field_place, with_register_filled}
 pub use Rattle.core_machine.specs.seat.Awaiting.{entries_awaited, entries_awaited_at}
 pub use Rattle.core_machine.specs.seat.Commands.{IsArrayCall, IsRecordCall, IsServed, MakesObject, field_of, object_of, source_of, target_of}

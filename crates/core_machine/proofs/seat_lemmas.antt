@@ -7,4 +7,5 @@ pub mod FittingAccess
 pub mod Held
 pub mod LastRun
 pub mod PollingOver
+pub mod Resting
 pub mod StepNeeds

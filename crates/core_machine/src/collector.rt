@@ -73,6 +73,7 @@ impl<L: ShowsRecent> CollectorParty<L> {
     pub fn forget(&mut self)
         ensures same { self.new ≡ record self.old { spare = self.new.spare; forgotten = self.new.forgotten } }
         ensures spare { self.old.spare ≤ self.new.spare }
+        ensures forgotten { self.new.forgotten ≡ L.forgets self.old.forgotten (length self.old.collector.log) }
     {
         self.log.forget();
     }

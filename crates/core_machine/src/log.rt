@@ -43,6 +43,7 @@ pub trait Entries: Drop {
         requires { 0 < left self.old }
         ensures entries { listed self.new ≡ listed self.old ++ entry ∷ [] }
         ensures spare { left self.old ≤ left self.new + 1 }
+        ensures no_more { left self.new ≤ left self.old }
         ensures forgotten { forgotten self.new ≡ forgotten self.old };
 }
 
@@ -56,6 +57,9 @@ pub trait CountsEntries: Entries {
 
 /// A log that shows its entries behind those that it forgot.
 pub trait ShowsRecent: CountsEntries {
+    /// How many of the first entries are forgotten once it was asked to forget, where so many were before and so many are listed.
+    ghost forgets: { ℕ → ℕ → ℕ };
+
     /// The entries behind those that were forgotten.
     fn recent(&self) -> &[Entry]
         ensures recent { result.now ≡ drop (Self.forgotten self.now) (Self.listed self.now) }
@@ -64,7 +68,8 @@ pub trait ShowsRecent: CountsEntries {
     /// The entries so far may be forgotten. A log that is there to keep them keeps them.
     fn forget(&mut self)
         ensures same { Self.listed self.new ≡ Self.listed self.old }
-        ensures more { Self.left self.old ≤ Self.left self.new };
+        ensures more { Self.left self.old ≤ Self.left self.new }
+        ensures forgotten { Self.forgotten self.new ≡ forgets (Self.forgotten self.old) (length (Self.listed self.old)) };
 }
 
 /// A log that shows the entry that was added last.

@@ -23,6 +23,7 @@ pub(crate) mod collecting;
 pub(crate) mod commands;
 mod compare;
 mod due;
+mod endings;
 mod gather;
 mod hands;
 mod handshake;
@@ -62,7 +63,7 @@ pub struct SeatParty<L: Entries = Log> {
     pub(crate) loaded: u64,
     pub(crate) asked: u64,
     pub(crate) shaded: u8,
-    pub(crate) sets: u32,
+    pub(crate) sets: u64,
     pub(crate) looks: Looks,
     pub(crate) left: bool,
     pub(crate) mine: L,
@@ -165,6 +166,7 @@ impl<L: Entries> SeatParty<L> {
         requires { 0 < self.old.spare }
         ensures seat { self.new.seat ≡ with_entries self.old.seat (entry ∷ []) }
         ensures spare { self.old.spare ≤ self.new.spare + 1 }
+        ensures no_more { self.new.spare ≤ self.old.spare }
         ensures forgotten { self.new.forgotten ≡ self.old.forgotten }
     {
         self.mine.push(entry);
@@ -199,6 +201,7 @@ impl<L: Entries> SeatParty<L> {
         requires { 0 < self.old.spare }
         ensures seat { self.new.seat ≡ seat_after_reply number self.old.seat reply }
         ensures spare { self.old.spare ≤ self.new.spare + 1 }
+        ensures no_more { self.new.spare ≤ self.old.spare }
         ensures forgotten { self.new.forgotten ≡ self.old.forgotten }
     {
         self.finish();

@@ -57,9 +57,13 @@ most_reserve = 15
 abbrev pub name_limit : ℕ
 name_limit = 2 ^ 32
 
--- a seat does fewer sets than this, its cas that swapped counted too
+-- as many stamps as a seat has: after so many sets of it they come again
 abbrev pub stamp_limit : ℕ
 stamp_limit = 2 ^ 26
+
+-- a seat does fewer sets than this, its cas that swapped counted too
+abbrev pub set_limit : ℕ
+set_limit = 2 ^ 63
 
 -- what stands in the word of a seat that has left
 abbrev pub left_word : ℕ

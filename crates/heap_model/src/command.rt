@@ -26,6 +26,7 @@ pub enum Command {
 
 impl Command {
     /// Whether each number of the command is in its range.
+    #[inline(always)]
     pub fn is_in_range(&self) -> bool
         ensures { IsTrue result ↔ IsCommand self.now }
     {
@@ -76,6 +77,7 @@ pub(crate) fn record_fragments(fields: u16) -> u32
 }
 
 /// Whether a command may write this register.
+#[inline(always)]
 fn is_target(d: u8) -> bool
     ensures { IsTrue result ↔ IsTarget d }
 {
@@ -83,6 +85,7 @@ fn is_target(d: u8) -> bool
 }
 
 /// Whether a seat has this register.
+#[inline(always)]
 fn is_register(r: u8) -> bool
     ensures { IsTrue result ↔ IsRegister r }
 {

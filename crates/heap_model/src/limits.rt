@@ -40,5 +40,8 @@ pub const NUMBER_LIMIT: u32 = 1 << 30;
 /// The most fragments that a seat keeps after a reply.
 pub const MOST_RESERVE: u16 = 15;
 
-/// A seat does fewer sets than this, so that a stamp tells whose set it is and which.
+/// As many stamps as a seat has. A stamp tells whose set it is, and which but for a multiple of this.
 pub const STAMP_LIMIT: u32 = 1 << 26;
+
+/// A seat does fewer sets than this, its compare and swaps that swapped among them.
+pub const SET_LIMIT: u64 = 1 << 63;

@@ -1,6 +1,6 @@
 use crate::id::{Id, Value};
 
-/// The answer to a command. A stamp is 0 for a cell that was never set, and else says whose set it was and which.
+/// The answer to a command. A stamp is 0 for a cell that was never set, and else says whose set it was, and which but for a multiple of 2^26.
 #[derive(Clone, Copy, Debug, PartialEq, Eq)]
 pub enum Reply {
     Made(Id),

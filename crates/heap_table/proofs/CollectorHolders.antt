@@ -154,6 +154,7 @@ quiet_turn_is_turned old new step found due quiet turned = record {
   known_is = turned.known_is ∙ ap (λ (c : Collector). record old.known { collector = c }) (quiet_collector_ignores_word old.heap old.known.collector found 0 (ap is_quiet due ∙ quiet));
   counted = turned.counted;
   room_stays = turned.room_stays;
+  no_more = turned.no_more;
 }
 
 -- the table has words

@@ -19,7 +19,7 @@ use Rattle.core_machine.specs.seat.Seat.{Seat}
 use Rattle.core_machine.specs.table.Layout.{table_length}
 use Rattle.core_rule.proofs.entries.AtRest.{seat_fits}
 use Rattle.core_rule.proofs.entries.SeatLists.{idle_list_is_all_told}
-use Rattle.heap_table.specs.Closed.{IsWhole, EndsWhole, logs_in, logs_known, HasOneHistory, AreWordsOf, AreLastWords}
+use Rattle.heap_table.specs.Closed.{IsWhole, EndsWhole, logs_in, logs_known, HasOneHistory, HaveOneHistory, AreWordsOf, AreLastWords}
 use Rattle.heap_table.specs.CollectorHeld.{CollectorHeld, KeepsToken, seats_in}
 use Rattle.heap_table.specs.Folded.{AllFolded, SeatsBefore}
 use Rattle.heap_table.specs.Handing.{with_closed}
@@ -108,6 +108,11 @@ pub record IsReading (shared : TableId) (key : Heap) (mine : TableId) (me : Me (
   pub known_is : known_by me.0 ≡ record start { closed = words }
   pub ends : EndsWhole heap (known_by me.0)
 
+-- one word more
+pub reads_on : (start old new : CollectorKnown) (found : ℕ) → old ≡ record start { closed = old.closed } → new ≡ with_closed old found → new ≡ record start { closed = new.closed }
+reads_on start old new found is read =
+    read ∙ ap (λ (k : CollectorKnown). with_closed k found) is ∙ ap (λ (words : List ℕ). record start { closed = words }) (sym (ap (λ (k : CollectorKnown). k.closed) read))
+
 -- while logs are moved: those moved so far stand behind those before, and the others are still in their slots
 pub record IsMoving (before : List (List Entry)) (seat_slots : List (Option SeatWithRoom)) (logs : List (List Entry)) (rest : List (Option SeatWithRoom)) : Type 0 where
   pub together : logs ++ logs_in rest ≡ before ++ logs_in seat_slots
@@ -136,6 +141,10 @@ closed_has_one_history heap known read seat_slots words logs folded read_is seat
     let one = one_history heap (record known { closed = words }) (ap length (sym seats) ∙ length-map seat_slots (λ slot. option_map (λ (party : SeatWithRoom). party.seat) slot) ∙ seat_slots_are) whole in
     subst (λ (n : ℕ). HasOneHistory (record { heap = heap; words = words; logs = logs; folded = n })) folded_is
     (subst (λ (l : List (List Entry)). HasOneHistory (record { heap = heap; words = words; logs = l; folded = known.folded })) (sym logs_are) one)
+
+-- which a holder shows that holds the same
+pub shown_have_one_history : (held shown : CollectorHeld) (words : List ℕ) → held ≡ shown → HaveOneHistory held.heap held.known words → HaveOneHistory shown.heap shown.known words
+shown_have_one_history held shown words same = subst (λ (v : CollectorHeld). HaveOneHistory v.heap v.known words) same
 
 -- of a table that is closed without logs, they are the last words
 pub read_words_are_last : (heap : Heap) (known : CollectorKnown) (words : List ℕ) (folded : ℕ) → AreWordsOf heap known words → length words ≡ table_length heap → known.folded ≡ folded

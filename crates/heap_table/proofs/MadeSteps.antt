@@ -38,7 +38,7 @@ leads_append heap number first mid last (m ∷ made) more here there = (here.0, 
 
 -- a holder that has made no step yet
 pub makes_no_steps : (held : SeatHeld) → MakesSteps held held []
-makes_no_steps held = record { table_stays = refl; heap_stays = refl; number_stays = refl; leads = refl; room_stays = omega arith }
+makes_no_steps held = record { table_stays = refl; heap_stays = refl; number_stays = refl; leads = refl; room_stays = omega arith; no_more = omega arith }
 
 -- and one that makes one list of steps behind another
 pub makes_steps_of_append : (first mid last : SeatHeld) (made more : List Made) → MakesSteps first mid made → MakesSteps mid last more → MakesSteps first last (made ++ more)
@@ -49,6 +49,7 @@ makes_steps_of_append first mid last made more one two = record {
   leads = leads_append first.heap first.number first.seat mid.seat last.seat made more one.leads
       (subst (λ (n : ℕ). LeadsTo first.heap n mid.seat more last.seat) one.number_stays (subst (λ (h : Heap). LeadsTo h mid.number mid.seat more last.seat) one.heap_stays two.leads));
   room_stays = omega (arith, one.room_stays, two.room_stays);
+  no_more = omega (arith, one.no_more, two.no_more);
 }
 
 -- one step alone
@@ -60,6 +61,7 @@ makes_one_step old new step found due told stepped = record {
   number_stays = stepped.number_stays;
   leads = (due, told, stepped.seat_is);
   room_stays = stepped.room_stays;
+  no_more = stepped.no_more;
 }
 
 -- to what it has led a call on an object

@@ -202,4 +202,5 @@ quiet_step_is_stepped old new step found due quiet stepped = record {
   number_stays = stepped.number_stays;
   seat_is = stepped.seat_is ∙ quiet_seat_ignores_word old.heap old.number old.seat step found 0 due quiet;
   room_stays = stepped.room_stays;
+  no_more = stepped.no_more;
 }

@@ -59,6 +59,10 @@ pub record HasOneHistory (closed : ClosedTable) : Type 0 where
   pub words_are : state.words ≡ closed.words
   pub seats_before : SeatsBefore closed.folded history
 
+-- with these as its last words, one legal history has exactly what each seat that was folded in and the collector told
+abbrev pub HaveOneHistory : Heap → CollectorKnown → List ℕ → Type 0
+HaveOneHistory heap known words = HasOneHistory (record { heap = heap; words = words; logs = logs_known known; folded = known.folded })
+
 -- what contracts see of a table that was closed without logs: its heap, its words, and the phase in which the last seat was folded in
 pub record LastWords : Type 0 where
   pub heap : Heap

@@ -49,10 +49,11 @@ pub record MayTurn (held : CollectorHeld) (step : Step) : Type 0 where
   pub due : (next_turn held.heap held.known.collector).step ≡ step
   pub room : 2 ≤ held.spare
 
--- the collector made its due turn, which found this word; else the holder is as it was, but for the room of new entries
+-- the collector made its due turn, which found this word; else the holder is as it was, but for the room of new entries, and no room was made
 pub record IsTurned (old new : CollectorHeld) (found : ℕ) : Type 0 where
   pub table_stays : new.table ≡ old.table
   pub heap_stays : new.heap ≡ old.heap
   pub known_is : new.known ≡ next_known old.heap old.known found
   pub counted : new.turns ≡ min (old.turns + 1) (2 ^ 64 - 1)
   pub room_stays : old.spare + length old.known.collector.log ≤ new.spare + length new.known.collector.log
+  pub no_more : new.spare ≤ old.spare

@@ -12,3 +12,4 @@ pub mod CollectorHeld
 pub mod Opened
 pub mod Closed
 pub mod Made
+pub mod StepLaws

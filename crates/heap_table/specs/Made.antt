@@ -31,13 +31,14 @@ LeadsTo heap number old [] new = new ≡ old
 LeadsTo heap number old (made ∷ more) new =
     (due_step heap number old ≡ Some made.step) × ToldAtStep heap number old made.found × LeadsTo heap number (next_seat heap number old made.found) more new
 
--- the seat made these steps; else the holder is as it was, but for the room of new entries
+-- the seat made these steps; else the holder is as it was, but for the room of new entries, and no room was made
 pub record MakesSteps (old new : SeatHeld) (made : List Made) : Type 0 where
   pub table_stays : new.table ≡ old.table
   pub heap_stays : new.heap ≡ old.heap
   pub number_stays : new.number ≡ old.number
   pub leads : LeadsTo old.heap old.number old.seat made new.seat
   pub room_stays : old.spare + length old.seat.mine ≤ new.spare + length new.seat.mine
+  pub no_more : new.spare ≤ old.spare
 
 -- so it is by whatever steps the seat has come here
 abbrev pub BySteps : SeatHeld → SeatHeld → (List Made → Type 0) → Type 0

@@ -40,13 +40,14 @@ pub record MayStep (held : SeatHeld) (step : Step) : Type 0 where
   pub due : due_step held.heap held.number held.seat ≡ Some step
   pub room : 2 ≤ held.spare
 
--- the seat made its due step, which found this word; else the holder is as it was, but for the room of new entries
+-- the seat made its due step, which found this word; else the holder is as it was, but for the room of new entries, and no room was made
 pub record IsStepped (old new : SeatHeld) (found : ℕ) : Type 0 where
   pub table_stays : new.table ≡ old.table
   pub heap_stays : new.heap ≡ old.heap
   pub number_stays : new.number ≡ old.number
   pub seat_is : new.seat ≡ next_seat old.heap old.number old.seat found
   pub room_stays : old.spare + length old.seat.mine ≤ new.spare + length new.seat.mine
+  pub no_more : new.spare ≤ old.spare
 
 -- it made that step, and the rule tells what goes with the word found
 pub record StepFinds (old new : SeatHeld) (found : ℕ) : Type 0 where

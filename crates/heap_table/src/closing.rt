@@ -1,7 +1,7 @@
-ghost use Rattle.std.specs.Prelude.{◌≡◌, ◌+◌, ◌-◌, ◌<◌, ◌≤◌, ◌++◌, [], map, length, vec_len, vec_capacity, IfOk, IfErr};
+ghost use Rattle.std.specs.Prelude.{◌≡◌, ◌+◌, ◌-◌, ◌<◌, ◌≤◌, ◌++◌, ℕ, List, [], map, length, vec_len, vec_capacity, IfOk, IfErr};
 ghost use Rattle.heap_model.specs.Heap.{IsHeap};
 ghost use Rattle.core_machine.specs.table.Layout.{table_length};
-ghost use Rattle.heap_table.specs.Closed.{EndsWhole, AreWordsOf, logs_known, logs_in};
+ghost use Rattle.heap_table.specs.Closed.{EndsWhole, AreWordsOf, HaveOneHistory, logs_known, logs_in};
 ghost use Rattle.heap_table.specs.CollectorHeld.{KeepsToken};
 ghost use Rattle.heap_table.specs.Folded.{AllFolded};
 ghost use Rattle.heap_table.specs.Handing.{with_closed};
@@ -49,6 +49,21 @@ fn read_all(table: &Words, token: &mut Token, heap: &Heap, words: &mut Vec<u64>,
 {
     for word in 0..count {
         words.push_reserved(read_next(table, token, heap, word));
+    }
+}
+
+/// Reads every word of the table likewise, and keeps none.
+fn read_each(table: &Words, token: &mut Token, heap: &Heap, count: usize)
+    requires table { KeepsToken table.now.table_id table.now.key token.old.table_id token.old.me heap.now }
+    requires folded { AllFolded heap.now (known_by token.old.me.0).seats }
+    requires unread { (known_by token.old.me.0).closed ≡ [] }
+    requires whole { count ≡ table_length heap.now }
+    ensures known { known_by token.new.me.0 ≡ record (known_by token.old.me.0) { closed = (known_by token.new.me.0).closed } }
+    ensures ends { EndsWhole heap.now (known_by token.new.me.0) }
+    ensures whole { length (known_by token.new.me.0).closed ≡ table_length heap.now }
+{
+    for position in 0..count {
+        read_next(table, token, heap, position);
     }
 }
 
@@ -122,6 +137,7 @@ impl<L: Entries, C: CountsEntries> CollectorHolder<L, C> {
         ensures heap { result.heap ≡ self.heap }
         ensures words { AreWordsOf self.heap self.known result.words }
         ensures folded { result.folded ≡ self.known.folded }
+        ensures history { HaveOneHistory self.heap self.known result.words }
     {
         let count = word_count(&self.heap);
         let CollectorHolder {
@@ -142,11 +158,27 @@ impl<L: Entries, C: CountsEntries> CollectorHolder<L, C> {
         ensures heap { IfOk result (λ closed. closed.heap ≡ self.heap) }
         ensures words { IfOk result (λ closed. AreWordsOf self.heap self.known closed.words) }
         ensures folded { IfOk result (λ closed. closed.folded ≡ self.known.folded) }
+        ensures history { IfOk result (λ closed. HaveOneHistory self.heap self.known closed.words) }
         ensures fault { IfErr result (λ fault. fault.holder ≡ self) }
     {
         let Ok(words) = Vec::with_capacity(alloc, self.word_count()) else {
             return Err(CloseFault { holder: self });
         };
         Ok(self.close_into(words))
+    }
+
+    /// Closes the table without logs, likewise, and keeps no word. It takes no memory.
+    pub fn close_quietly(self)
+        requires { AllFolded self.heap self.known.seats }
+        ensures { (words : List ℕ) × HaveOneHistory self.heap self.known words }
+    {
+        let count = word_count(&self.heap);
+        let CollectorHolder {
+            table,
+            mut token,
+            heap,
+            ..
+        } = self;
+        read_each(&table.shared, &mut token, &heap, count);
     }
 }

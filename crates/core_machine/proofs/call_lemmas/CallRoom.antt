@@ -55,6 +55,7 @@ pub spends_room_in_turn : (first second third : MachineValue) (number : ℕ) →
 spends_room_in_turn first second third number one two = record {
   forgotten = two.forgotten ∙ one.forgotten;
   own = omega (arith, one.own, two.own);
+  no_more = omega (arith, one.no_more, two.no_more);
   others = λ other apart. two.others other apart ∙ one.others other apart;
 }
 
@@ -70,7 +71,7 @@ begin_spends_room old new number command machine can is =
     let still : number < length now.state.seats = omega (arith, within, length-set old.state.seats number begun_) in
     let same : (log_of now number) ≡ (log_of old number) =
     seat_log_is_own_list now number still ∙ ap (λ (s : Seat). s.mine) here ∙ (begin_stands old.heap number seat command machine.limits (machine.fit number within) can.1).kept ∙ sym (seat_log_is_own_list old number within) in
-    subst (λ (m : MachineValue). SpendsRoom old m number) (sym is) (record { forgotten = refl; own = omega (arith, ap (length {A = Entry}) same); others = λ other apart. refl })
+    subst (λ (m : MachineValue). SpendsRoom old m number) (sym is) (record { forgotten = refl; own = omega (arith, ap (length {A = Entry}) same); no_more = omega arith; others = λ other apart. refl })
 
 -- a call owes no more than twice its need and two when it is begun
 pub room_begun : (heap : Heap) (old : State) (number : ℕ) (command : Command) → IsMachine heap old → Can heap old (Begins number command)

@@ -103,7 +103,7 @@ inner_begin_spends_room old new number inner can is =
     let still : number < length now.state.seats = omega (arith, can.0, length-set old.state.seats number begun_) in
     let before_log = ap (length {A = Entry}) (seat_log_is_own_list old number can.0) in
     let after_log = ap (length {A = Entry}) (seat_log_is_own_list now number still ∙ ap (λ (s : Seat). s.mine) here) in
-    subst (λ (v : MachineValue). SpendsRoom old v number) (sym is) (record { forgotten = refl; own = omega (arith, before_log, after_log); others = λ other apart. refl })
+    subst (λ (v : MachineValue). SpendsRoom old v number) (sym is) (record { forgotten = refl; own = omega (arith, before_log, after_log); no_more = omega arith; others = λ other apart. refl })
 
 -- and leaves room for the call
 pub begun_inner_has_room : (old new : MachineValue) (number : ℕ) (inner : Inner) → IsMachine old.heap old.state → Can old.heap old.state (BeginsInner number inner)

@@ -65,14 +65,15 @@ module _ (heap : Heap) (words : List ℕ) (parties : List SeatWithRoom) (collect
       let had : 2 ≤ spare_of (value_of heap words parties collector room gone) (length parties) = rw long at (rw (← view) at enough) in
       rw is at had
 
--- the number behind the seats' is the collector's: it lost no more room than its new entries take, and no seat lost any
+-- the number behind the seats' is the collector's: it lost no more room than its new entries take, it got none, and no seat lost any
 pub turn_spends : (heap : Heap) (words now : List ℕ) (parties : List SeatWithRoom) (collector next : Collector) (room left gone kept : ℕ) (value : MachineValue)
-    → value_of heap words parties collector room gone ≡ value → kept ≡ gone → room + length collector.log ≤ left + length next.log
+    → value_of heap words parties collector room gone ≡ value → kept ≡ gone → room + length collector.log ≤ left + length next.log → left ≤ room
     → SpendsRoom value (value_of heap now parties next left kept) (length value.state.seats)
-turn_spends heap words now parties collector next room left gone kept value view same own =
+turn_spends heap words now parties collector next room left gone kept value view same own no_more =
     subst (λ (v : MachineValue). SpendsRoom v (value_of heap now parties next left kept) (length v.state.seats)) view
     (rw (length-map parties (λ (s : SeatWithRoom). s.seat)) record {
       forgotten = ap (λ (n : ℕ). map (λ (s : SeatWithRoom). s.forgotten) parties ++ n ∷ []) same;
       own = rw (last_here (λ s. s.spare) parties room, last_here (λ s. s.spare) parties left, length-map parties (λ (s : SeatWithRoom). s.seat), eq-eqb (length parties) (length parties) refl) own;
+      no_more = rw (last_here (λ s. s.spare) parties room, last_here (λ s. s.spare) parties left) no_more;
       others = λ other apart. each_but_last (λ s. s.spare) parties room left other apart;
     })

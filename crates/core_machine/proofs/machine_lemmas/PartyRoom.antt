@@ -73,6 +73,16 @@ module _ (heap : Heap) (words : List ℕ) (parties : List SeatWithRoom) (collect
           let was : spare_of value number ≡ room = rw (← view, number_is) (last_here (λ (s : SeatWithRoom). s.spare) parties room) in
           omega (arith, was, collector_has_room, more)
 
+      -- and has forgotten as many of its entries as its log says
+      pub collector_has_forgotten : (forgets : ℕ → ℕ → ℕ) → kept ≡ forgets gone (length collector.log)
+          → forgotten_of (value_of heap words parties next left kept) number ≡ forgets (forgotten_of value number) (length (log_of value number))
+      collector_has_forgotten forgets is =
+          let last = eq-eqb (length parties) (length (map (λ (s : SeatWithRoom). s.seat) parties)) (sym (length-map parties (λ (s : SeatWithRoom). s.seat))) in
+          let was : forgotten_of value number ≡ gone = rw (← view, number_is) (last_here (λ (s : SeatWithRoom). s.forgotten) parties gone) in
+          let log : log_of value number ≡ collector.log = rw (← view, number_is, last) refl in
+          let now : forgotten_of (value_of heap words parties next left kept) number ≡ kept = rw number_is (last_here (λ (s : SeatWithRoom). s.forgotten) parties kept) in
+          now ∙ is ∙ ap (λ (n : ℕ). forgets n (length collector.log)) (sym was) ∙ ap (λ (l : List Entry). forgets (forgotten_of value number) (length l)) (sym log)
+
       -- and the others have what they had
       pub others_keep_room : (other : ℕ) → other ≢ number → spare_of (value_of heap words parties next left kept) other ≡ spare_of value other
       others_keep_room other apart = rw (← view) (each_but_last (λ (s : SeatWithRoom). s.spare) parties room left other (subst (λ (n : ℕ). other ≢ n) number_is apart))

@@ -3,7 +3,7 @@ use Rattle.std.proofs.Common.{◌≡◌, ℕ, ◌+◌, ◌<◌, ◌≤◌, List,
 use Rattle.std.proofs.Math.ListN.{length-map}
 use Rattle.std.specs.Prelude.{IfSome}
 use Rattle.core_machine.proofs.Terms.{Heap, Step, put, InTable, FoundPointsWithin, address_of, word_after, Fits, next_move, due_step, seat_after_due, seat_at, found_by, Steps}
-use Rattle.core_machine.proofs.Terms.{state_after, SeatWithRoom, MachineValue, spare_of, SpendsRoom, IsMachine}
+use Rattle.core_machine.proofs.Terms.{state_after, SeatWithRoom, MachineValue, spare_of, KeepsRoom, SpendsRoom, IsMachine}
 use Rattle.core_machine.specs.collector.Collector.{Collector}
 use Rattle.core_machine.proofs.machine_lemmas.Parties.{state_of, value_of, partys_seat_fits}
 use Rattle.core_machine.proofs.machine_lemmas.Stepping.{due_party_is_seat, due_step_in_table, step_finds_within_heap, step_leaves_machine, step_leaves_state, step_spends_room, spare_was_partys}
@@ -52,7 +52,7 @@ module _ (heap : Heap) (words : List ℕ) (parties : List SeatWithRoom) (collect
 
   -- the party that got room loses no more than its new entries take
   pub seat_step_spends_room : (party next : SeatWithRoom) (now : List ℕ) → party ≡ get_or parties number party
-      → next.forgotten ≡ party.forgotten → party.spare + length party.seat.mine ≤ next.spare + length next.seat.mine → SpendsRoom value (value_of heap now (set parties number next) collector room gone) number
+      → next.forgotten ≡ party.forgotten → KeepsRoom party next → SpendsRoom value (value_of heap now (set parties number next) collector room gone) number
   seat_step_spends_room party next now here same own =
       subst (λ (v : MachineValue). SpendsRoom v (value_of heap now (set parties number next) collector room gone) number) view
       (step_spends_room heap words parties collector room gone number party next within here now same own)

@@ -7,7 +7,7 @@ use Rattle.std.proofs.lemmas.List.{length-set, length-map, get_or-set_same, get_
 use Rattle.std.proofs.Math.Seq.{map-set_same}
 use Rattle.core_machine.proofs.Terms.{Heap, Command, Step, put, InTable, FoundPointsWithin, address_of, word_after, Seat, absent_seat, Move, next_move, due_step, seat_after_due}
 use Rattle.core_machine.proofs.Terms.{seat_at, found_by, MayBegin, MayBeginInner, after_begin, after_inner_begin, Begins, BeginsInner, Steps, state_after, state_after_due}
-use Rattle.core_machine.proofs.Terms.{SeatWithRoom, MachineValue, Can, spare_of, forgotten_of, log_of, SpendsRoom, IsMachine}
+use Rattle.core_machine.proofs.Terms.{SeatWithRoom, MachineValue, Can, spare_of, forgotten_of, log_of, KeepsRoom, SpendsRoom, IsMachine}
 use Rattle.core_machine.specs.machine.Value.{due_of, event_of, recent_of}
 use Rattle.heap_model.specs.declared.entry.Entry.{Entry}
 use Rattle.heap_model.specs.declared.calls.collect.Inner.{Inner}
@@ -161,6 +161,14 @@ module _ (heap : Heap) (words : List ℕ) (parties : List SeatWithRoom) (collect
       let seat_ : eqb number (length (map (λ s. s.seat) parties)) ≡ false = ne_eqb number (length (map (λ s. s.seat) parties)) (λ e. absurd (omega arith)) in
       rw seat_ (ap (λ (s : Seat). s.mine) the_seat)
 
+  -- a party that forgets has forgotten as many of them as its log says
+  pub own_forgotten_are_partys : (forgets : ℕ → ℕ → ℕ) → next.forgotten ≡ forgets party.forgotten (length party.seat.mine)
+      → forgotten_of (value_of heap words (set parties number next) collector room gone) number
+      ≡ forgets (forgotten_of (value_of heap words parties collector room gone) number) (length (log_of (value_of heap words parties collector room gone) number))
+  own_forgotten_are_partys forgets is =
+      set_party_has_own_number (λ s. s.forgotten) parties gone number next within ∙ is ∙ ap (λ (n : ℕ). forgets n (length party.seat.mine)) (sym forgotten_before)
+      ∙ ap (λ (l : List Entry). forgets (forgotten_of (value_of heap words parties collector room gone) number) (length l)) (sym log_was_partys_list)
+
   -- and what is shown of them
   pub shown_before : (value : MachineValue) (told : List Entry) → value_of heap words parties collector room gone ≡ value → told ≡ drop party.forgotten party.seat.mine
       → party.forgotten ≤ length party.seat.mine → (told ≡ recent_of value number) × (forgotten_of value number ≤ length (log_of value number))
@@ -173,11 +181,12 @@ module _ (heap : Heap) (words : List ℕ) (parties : List SeatWithRoom) (collect
       let seat_ : eqb number (length (map (λ s. s.seat) (set parties number next))) ≡ false = ne_eqb number (length (map (λ s. s.seat) (set parties number next))) (λ e. absurd (omega arith)) in
       rw seat_ (ap (λ (s : Seat). s.mine) (seat_is_partys now (set parties number next) collector number party (omega arith) ∙ ap (λ (s : SeatWithRoom). s.seat) (get_or-set_same parties number next party within)))
 
-  pub step_spends_room : (now : List ℕ) → next.forgotten ≡ party.forgotten → party.spare + length party.seat.mine ≤ next.spare + length next.seat.mine
+  pub step_spends_room : (now : List ℕ) → next.forgotten ≡ party.forgotten → KeepsRoom party next
       → SpendsRoom (value_of heap words parties collector room gone) (value_of heap now (set parties number next) collector room gone) number
   step_spends_room now same own = record {
     forgotten = ap (λ (l : List ℕ). l ++ gone ∷ []) (party_numbers_stay (λ s. s.forgotten) parties number next party (same ∙ ap (λ (s : SeatWithRoom). s.forgotten) here));
-    own = rw (spare_was_partys, log_was_partys_list, own_spare_is_partys now, log_here now) own;
+    own = rw (spare_was_partys, log_was_partys_list, own_spare_is_partys now, log_here now) own.0;
+    no_more = rw (spare_was_partys, own_spare_is_partys now) own.1;
     others = λ other apart. other_spare_stays now other apart;
   }
 

@@ -72,13 +72,13 @@ pub birth_word_fits_bits : (black : Bool) (bits word : ℕ) → bits < 2 ^ 16 �
 birth_word_fits_bits false bits word small wide = or_lt 64 word (bits * 2 ^ 16) wide (omega arith)
 birth_word_fits_bits true bits word small wide = or_lt 64 word (bits * 2 ^ 16 + bits * 2 ^ 32 + bits * 2 ^ 48) wide (omega arith)
 
--- a set has a stamp left
-pub set_has_stamp_left : (command : Command) (made sets : ℕ) → IsSet command → HasNumberLeft made sets command → sets + 1 < 2 ^ 26
+-- a set is left to a command that sets
+pub set_has_stamp_left : (command : Command) (made sets : ℕ) → IsSet command → HasNumberLeft made sets command → sets + 1 < 2 ^ 63
 set_has_stamp_left (Set r i v) made sets a_set numbered = numbered
 set_has_stamp_left _ made sets a_set numbered = absurd a_set
 
 -- and so has a compare and swap
-pub cas_has_stamp_left : (command : Command) (made sets : ℕ) → IsCas command → HasNumberLeft made sets command → sets + 1 < 2 ^ 26
+pub cas_has_stamp_left : (command : Command) (made sets : ℕ) → IsCas command → HasNumberLeft made sets command → sets + 1 < 2 ^ 63
 cas_has_stamp_left (Cas r i a v) made sets a_cas numbered = numbered
 cas_has_stamp_left _ made sets a_cas numbered = absurd a_cas
 

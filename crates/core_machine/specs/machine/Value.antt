@@ -18,9 +18,9 @@ pub record SeatWithRoom : Type 0 where
   pub spare : ℕ
   pub forgotten : ℕ
 
--- the seat lost no more room than its new entries take
+-- the seat lost no more room than its new entries take, and got none
 abbrev pub KeepsRoom : SeatWithRoom → SeatWithRoom → Type 0
-KeepsRoom old new = old.spare + length old.seat.mine ≤ new.spare + length new.seat.mine
+KeepsRoom old new = (old.spare + length old.seat.mine ≤ new.spare + length new.seat.mine) × (new.spare ≤ old.spare)
 
 -- the collector's data, for how many more entries it has room, how many of its first entries were forgotten, and how many turns it has made, as far as 64 bits count them
 pub record CollectorWithRoom : Type 0 where
@@ -66,10 +66,11 @@ due_of heap state party =
 abbrev pub event_of : State → ℕ → Event
 event_of state party = if party == length state.seats then Turns else Steps party
 
--- the party lost no more room than its new entries take, no other party lost any, and nothing was forgotten
+-- the party lost no more room than its new entries take, no party got any, no other lost any, and nothing was forgotten
 pub record SpendsRoom (old new : MachineValue) (party : ℕ) : Type 0 where
   pub forgotten : new.forgotten ≡ old.forgotten
   pub own : spare_of old party + length (log_of old party) ≤ spare_of new party + length (log_of new party)
+  pub no_more : spare_of new party ≤ spare_of old party
   pub others : (other : ℕ) → other ≢ party → spare_of new other ≡ spare_of old other
 
 -- what is true of every machine: its table has 64-bit words that lead within the heap, and its parties' data fit together

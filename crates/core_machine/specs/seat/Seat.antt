@@ -1,12 +1,12 @@
 -- What the machine keeps of a seat. The seat's number is its position among the seats, and stands nowhere in it.
-use Rattle.std.specs.Prelude.{ℕ, ◌+◌, ◌<◌, Bool, true, List, [], ◌∷◌, ◌++◌, slice_set}
+use Rattle.std.specs.Prelude.{◌≡◌, ℕ, ◌+◌, ◌<◌, Bool, true, List, [], ◌∷◌, ◌++◌, slice_set}
 use Rattle.heap_words.specs.declared.spot.Spot.{Spot}
 use Rattle.heap_model.specs.declared.entry.Entry.{Entry}
 use Rattle.heap_model.specs.declared.entry.Entry.TheVariants.{Said}
 use Rattle.heap_model.specs.declared.command.Command.{Command}
 use Rattle.heap_model.specs.declared.command.Command.TheVariants as commands
 use Rattle.heap_model.specs.declared.reply.Reply.{Reply}
-use Rattle.heap_model.specs.Limits.{name_limit, stamp_limit}
+use Rattle.heap_model.specs.Limits.{name_limit, set_limit}
 use Rattle.heap_model.specs.Needs.{spine_need_of}
 use Rattle.heap_model.specs.account.Space.{need_of}
 use Rattle.core_machine.specs.declared.point.Point.{Point}
@@ -115,13 +115,13 @@ need seat = need_of seat.command
 abbrev pub spine_need : Seat → ℕ
 spine_need seat = spine_need_of seat.command
 
--- where so many objects were made and sets done, a name is left for the object that the command makes, or a stamp for the field that it sets
+-- where so many objects were made and sets done, a name is left for the object that the command makes, or a set for the field that it sets
 abbrev pub HasNumberLeft : ℕ → ℕ → Command → Type 0
 HasNumberLeft made sets (commands.New d fields) = made + 1 < name_limit
 HasNumberLeft made sets (commands.Array d cells) = made + 1 < name_limit
 HasNumberLeft made sets (commands.Get d r i) = Unit {0}
-HasNumberLeft made sets (commands.Set r i v) = sets + 1 < stamp_limit
-HasNumberLeft made sets (commands.Cas r i a v) = sets + 1 < stamp_limit
+HasNumberLeft made sets (commands.Set r i v) = sets + 1 < set_limit
+HasNumberLeft made sets (commands.Cas r i a v) = sets + 1 < set_limit
 HasNumberLeft made sets (commands.Num d n) = Unit {0}
 HasNumberLeft made sets (commands.Nil d) = Unit {0}
 HasNumberLeft made sets (commands.Copy d r) = Unit {0}
@@ -154,6 +154,10 @@ call_over seat = record absent_seat {
   left = seat.left;
   mine = seat.mine;
 }
+
+-- the seat has nothing of a call: the end of one would change nothing
+abbrev pub HasNoCall : Seat → Type 0
+HasNoCall seat = call_over seat ≡ seat
 
 -- the call is over with its reply, and the seat forgets what it has found since the one before
 abbrev pub after_call : Seat → Seat

@@ -82,6 +82,7 @@ impl<L: CountsEntries> CollectorParty<L> {
         requires spare { 0 < self.old.spare }
         ensures collector { self.new.collector ≡ record (after_advance self.old.collector) { log = self.old.collector.log ++ entry ∷ [] } }
         ensures spare { self.old.spare ≤ self.new.spare + 1 }
+        ensures no_more { self.new.spare ≤ self.old.spare }
         ensures forgotten { self.new.forgotten ≡ self.old.forgotten }
         ensures turns { self.new.turns ≡ self.old.turns }
     {
@@ -97,6 +98,7 @@ impl<L: CountsEntries> CollectorParty<L> {
         requires spare { 0 < self.old.spare }
         ensures collector { self.new.collector ≡ collector_after (free_turn heap.now self.old.collector group dead words) 0 }
         ensures spare { self.old.spare ≤ self.new.spare + 1 }
+        ensures no_more { self.new.spare ≤ self.old.spare }
         ensures forgotten { self.new.forgotten ≡ self.old.forgotten }
         ensures turns { self.new.turns ≡ self.old.turns }
     {
@@ -110,6 +112,7 @@ impl<L: CountsEntries> CollectorParty<L> {
         requires spare { 0 < self.old.spare }
         ensures collector { self.new.collector ≡ collector_after (return_turn heap.now self.old.collector group words) 0 }
         ensures spare { self.old.spare ≤ self.new.spare + 1 }
+        ensures no_more { self.new.spare ≤ self.old.spare }
         ensures forgotten { self.new.forgotten ≡ self.old.forgotten }
         ensures turns { self.new.turns ≡ self.old.turns }
     {
@@ -124,6 +127,7 @@ impl<L: CountsEntries> CollectorParty<L> {
         requires spare { 0 < self.old.spare }
         ensures collector { self.new.collector ≡ collector_after (copying_turn heap.now self.old.collector stage) found }
         ensures spare { self.old.spare + length self.old.collector.log ≤ self.new.spare + length self.new.collector.log }
+        ensures no_more { self.new.spare ≤ self.old.spare }
         ensures forgotten { self.new.forgotten ≡ self.old.forgotten }
         ensures turns { self.new.turns ≡ self.old.turns }
     {
@@ -140,6 +144,7 @@ impl<L: CountsEntries> CollectorParty<L> {
         ensures collector { self.new.collector ≡ collector_after (advance_turn self.old.collector) 0 }
         ensures answer { result ≡ (advance_turn self.old.collector).answer 0 }
         ensures spare { self.old.spare ≤ self.new.spare + 1 }
+        ensures no_more { self.new.spare ≤ self.old.spare }
         ensures forgotten { self.new.forgotten ≡ self.old.forgotten }
         ensures turns { self.new.turns ≡ self.old.turns }
     {
@@ -154,6 +159,7 @@ impl<L: CountsEntries> CollectorParty<L> {
         ensures collector { self.new.collector ≡ collector_after (end_turn self.old.collector kept) 0 }
         ensures answer { result ≡ (end_turn self.old.collector kept).answer 0 }
         ensures spare { self.old.spare ≤ self.new.spare + 1 }
+        ensures no_more { self.new.spare ≤ self.old.spare }
         ensures forgotten { self.new.forgotten ≡ self.old.forgotten }
         ensures turns { self.new.turns ≡ self.old.turns }
     {
@@ -172,6 +178,7 @@ impl<L: CountsEntries> CollectorParty<L> {
         ensures collector { self.new.collector ≡ collector_after (next_turn heap.now self.old.collector) found }
         ensures answer { result ≡ (next_turn heap.now self.old.collector).answer found }
         ensures spare { self.old.spare + length self.old.collector.log ≤ self.new.spare + length self.new.collector.log }
+        ensures no_more { self.new.spare ≤ self.old.spare }
         ensures forgotten { self.new.forgotten ≡ self.old.forgotten }
         ensures turns { self.new.turns ≡ min (self.old.turns + 1) (2 ^ 64 - 1) }
     {

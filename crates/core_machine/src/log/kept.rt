@@ -62,10 +62,7 @@ impl Entries for Log {
     }
 
     fn push(&mut self, entry: Entry) {
-        match self.entries.push(entry) {
-            Ok(()) => (),
-            Err(_) => unreachable!(),
-        }
+        self.entries.push_reserved(entry);
     }
 }
 
@@ -76,6 +73,8 @@ impl CountsEntries for Log {
 }
 
 impl ShowsRecent for Log {
+    ghost forgets = { λ before _. before };
+
     fn recent(&self) -> &[Entry] {
         self.entries.as_slice()
     }

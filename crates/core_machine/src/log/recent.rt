@@ -60,10 +60,7 @@ impl Entries for RecentLog {
 
     fn push(&mut self, entry: Entry) {
         self.told.push(entry);
-        match self.recent.push(entry) {
-            Ok(()) => (),
-            Err(_) => unreachable!(),
-        }
+        self.recent.push_reserved(entry);
     }
 }
 
@@ -74,6 +71,8 @@ impl CountsEntries for RecentLog {
 }
 
 impl ShowsRecent for RecentLog {
+    ghost forgets = { λ _ listed. listed };
+
     fn recent(&self) -> &[Entry] {
         self.recent.as_slice()
     }

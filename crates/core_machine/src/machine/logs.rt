@@ -35,6 +35,7 @@ impl<L: ShowsRecent> Machine<L> {
     pub fn forget(&mut self, party: u8)
         requires { IsParty self.old party }
         ensures same { self.new ≡ record self.old { spares = self.new.spares; forgotten = self.new.forgotten } }
+        ensures forgotten { forgotten_of self.new party ≡ L.forgets (forgotten_of self.old party) (length (log_of self.old party)) }
         ensures more { spare_of self.old party ≤ spare_of self.new party }
         ensures others { (other : ℕ) → other ≢ party → (forgotten_of self.new other ≡ forgotten_of self.old other) × (spare_of self.new other ≡ spare_of self.old other) }
     {

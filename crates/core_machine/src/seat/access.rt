@@ -1,11 +1,12 @@
 ghost use Rattle.std.specs.Prelude.{◌≡◌, ◌+◌, ◌<◌, ◌^◌, IfSome};
-ghost use Rattle.heap_model.specs.Limits.{register_count, most_seats, stamp_limit};
+ghost use Rattle.heap_model.specs.Limits.{register_count, most_seats, set_limit};
+ghost use Rattle.heap_model.specs.graph.Growth.{set_stamp};
 ghost use Rattle.core_machine.specs.seat.Seat.{with_entries, with_held};
 ghost use Rattle.core_machine.specs.seat.Commands.{target_of, source_of};
 ghost use Rattle.heap_words.specs.Loaded.{head_of};
 ghost use Rattle.core_machine.specs.seat.Access.{after_get, after_old, new_point_of};
 ghost use Rattle.core_machine.specs.seat.AccessMoves.{got_adds, name_move, old_move, swap_move, loaded_head_of, new_register_of, new_word_of};
-ghost use Rattle.core_machine.specs.seat.Registers.{register_head, IsSmall};
+ghost use Rattle.core_machine.specs.seat.Registers.{register_head, register_in, register_word, seen_in, IsSmall};
 ghost use Rattle.core_machine.specs.Moves.{seat_after};
 ghost use Rattle.core_machine.specs.machine.Value.{KeepsRoom};
 
@@ -41,6 +42,48 @@ impl<L: Entries> SeatParty<L> {
         }
     }
 
+    /// What a register holds.
+    #[inline(always)]
+    pub fn register(&self, r: u8) -> Register
+        requires { r < register_count }
+        ensures { result ≡ register_in self.now.seat.registers r }
+    {
+        self.registers[r as usize]
+    }
+
+    /// The stamp of the seat's next set.
+    #[inline(always)]
+    fn next_stamp(&self, number: u8) -> u32
+        requires number { number < most_seats }
+        requires stamp { self.now.seat.sets + 1 < set_limit }
+        ensures { result ≡ set_stamp number (self.now.seat.sets + 1) }
+    {
+        let count = (self.sets + 1) % u64::from(STAMP_LIMIT);
+        (u32::from(number) + 1) * STAMP_LIMIT + count as u32
+    }
+
+    /// The word that the seat's next set puts into a field, of what register `v` holds.
+    #[inline(always)]
+    pub fn word_to_set(&self, number: u8, v: u8) -> u64
+        requires source { v < register_count }
+        requires small { IsSmall (register_in self.now.seat.registers v) }
+        requires number { number < most_seats }
+        requires stamp { self.now.seat.sets + 1 < set_limit }
+        ensures { result ≡ register_word (register_in self.now.seat.registers v) (set_stamp number (self.now.seat.sets + 1)) }
+    {
+        self.register(v).word(self.next_stamp(number))
+    }
+
+    /// The word of what register `a` holds, under the stamp that it was seen under.
+    #[inline(always)]
+    pub fn word_seen(&self, a: u8) -> u64
+        requires register { a < register_count }
+        requires small { IsSmall (register_in self.now.seat.registers a) }
+        ensures { result ≡ register_word (register_in self.now.seat.registers a) (seen_in self.now.seat.seen a) }
+    {
+        self.register(a).word(self.seen[a as usize])
+    }
+
     /// What a set puts into the field.
     pub(crate) fn new_register(&self) -> Register
         requires { source_of self.now.seat.command < register_count }
@@ -54,11 +97,10 @@ impl<L: Entries> SeatParty<L> {
         requires source { source_of self.now.seat.command < register_count }
         requires small { IsSmall (new_register_of self.now.seat) }
         requires number { number < most_seats }
-        requires stamp { self.now.seat.sets + 1 < stamp_limit }
+        requires stamp { self.now.seat.sets + 1 < set_limit }
         ensures { result ≡ new_word_of number self.now.seat }
     {
-        let stamp = (u32::from(number) + 1) * STAMP_LIMIT + self.sets + 1;
-        self.new_register().word(stamp)
+        self.new_register().word(self.next_stamp(number))
     }
 
     /// The register has another value, seen under this stamp.
@@ -149,7 +191,7 @@ impl<L: Entries> SeatParty<L> {
 
     /// Learns what the swap took out of the field.
     pub(crate) fn learn_swap(&mut self, number: u8, found: u64)
-        requires sets { self.old.seat.sets < stamp_limit }
+        requires sets { self.old.seat.sets < set_limit }
         requires spare { 0 < self.old.spare }
         ensures seat { self.new.seat ≡ seat_after (swap_move number self.old.seat) found }
         ensures spare { KeepsRoom self.old self.new }

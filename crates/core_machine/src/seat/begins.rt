@@ -10,11 +10,11 @@ use crate::point::{Making, Point, Polling};
 use crate::seat::SeatParty;
 use crate::seat::collecting::first_point;
 use crate::seat::commands::Operands;
-use heap_model::limits::STAMP_LIMIT;
+use heap_model::limits::SET_LIMIT;
 use heap_model::{Command, Heap, Inner};
 
 /// The most sets that a seat does, its compare and swaps that swapped among them.
-const MOST_SETS: u32 = STAMP_LIMIT - 1;
+const MOST_SETS: u64 = SET_LIMIT - 1;
 
 /// Whether the machine serves the command.
 fn is_served(command: &Command) -> bool
@@ -49,7 +49,7 @@ impl<L: Entries> SeatParty<L> {
         !self.left && is_served(command) && command.is_in_range() && self.has_number(command)
     }
 
-    /// Whether a name is left for the object that the command makes, or a stamp for the field that it sets.
+    /// Whether a name is left for the object that the command makes, or a set for the field that it sets.
     fn has_number(&self, command: &Command) -> bool
         ensures { IsTrue result ↔ HasNumberLeft self.now.seat.made self.now.seat.sets command.now }
     {

@@ -1,5 +1,5 @@
 ghost use Rattle.std.specs.Prelude.{◌≡◌, ◌+◌, ◌<◌};
-ghost use Rattle.heap_model.specs.Limits.{stamp_limit};
+ghost use Rattle.heap_model.specs.Limits.{set_limit};
 ghost use Rattle.heap_model.specs.Command.{IsCommand};
 ghost use Rattle.core_machine.specs.seat.Access.{side_register_of, offer_point_of, guard_point_of, after_side};
 ghost use Rattle.core_machine.specs.declared.point.Side.TheVariants as sides;
@@ -79,7 +79,7 @@ impl<L: Entries> SeatParty<L> {
     pub(crate) fn learn_replace(&mut self, number: u8, found: u64)
         requires command { IsCommand self.old.seat.command }
         requires small { IsSmall (side_register_of self.old.seat sides.Expected) }
-        requires sets { self.old.seat.sets < stamp_limit }
+        requires sets { self.old.seat.sets < set_limit }
         requires spare { 0 < self.old.spare }
         ensures seat { self.new.seat ≡ seat_after (replace_move number self.old.seat) found }
         ensures spare { KeepsRoom self.old self.new }

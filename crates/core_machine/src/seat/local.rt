@@ -19,7 +19,7 @@ fn answer(same: bool) -> Reply
 
 impl<L: Entries> SeatParty<L> {
     /// The reply of a command that looks at no word.
-    fn local_reply(&self) -> Reply
+    pub(crate) fn local_reply(&self) -> Reply
         requires { IsCommand self.now.seat.command }
         ensures { result ≡ local_reply_of self.now.seat.registers self.now.seat.command }
     {
@@ -35,7 +35,7 @@ impl<L: Entries> SeatParty<L> {
     }
 
     /// Changes the register that the command names.
-    fn change_register(&mut self)
+    pub(crate) fn change_register(&mut self)
         requires { IsCommand self.old.seat.command }
         ensures seat { self.new.seat ≡ record self.old.seat { registers = local_registers self.old.seat.registers self.old.seat.command; seen = local_seen self.old.seat.seen self.old.seat.command } }
         ensures spare { self.new.spare ≡ self.old.spare }

@@ -37,6 +37,7 @@ impl<L: ShowsRecent> SeatParty<L> {
     pub fn forget(&mut self)
         ensures same { self.new.seat ≡ self.old.seat }
         ensures spare { self.old.spare ≤ self.new.spare }
+        ensures forgotten { self.new.forgotten ≡ L.forgets self.old.forgotten (length self.old.seat.mine) }
     {
         self.mine.forget();
     }
@@ -84,7 +85,7 @@ impl<L: Entries> SeatParty<L> {
     }
 
     /// How many sets it has done.
-    pub fn sets(&self) -> u32
+    pub fn sets(&self) -> u64
         ensures { result ≡ self.now.seat.sets }
     {
         self.sets

@@ -87,7 +87,7 @@ impl<L: Entries> SeatParty<L> {
     }
 
     /// Whether a set or a compare and swap has to shade what it takes out and what it puts in.
-    fn has_barrier(&self) -> bool
+    pub fn has_barrier(&self) -> bool
         ensures { result ≡ has_barrier_of self.now.seat }
     {
         let k = self.answered % CYCLE_PHASES;

@@ -22,8 +22,8 @@ module _ (command : Command) (is : IsCas command) where
   pub expected_within_registers : IsCommand command → expected_of command < 16
   expected_within_registers = cas_only (λ c. IsCommand c → expected_of c < 16) (λ r i a v ranges. omega (arith, ranges.2)) command is
 
-  pub cas_numbered : (made sets : ℕ) → HasNumberLeft made sets command → sets + 1 < 2 ^ 26
-  cas_numbered made sets = cas_only (λ c. HasNumberLeft made sets c → sets + 1 < 2 ^ 26) (λ r i a v numbered. numbered) command is
+  pub cas_numbered : (made sets : ℕ) → HasNumberLeft made sets command → sets + 1 < 2 ^ 63
+  cas_numbered made sets = cas_only (λ c. HasNumberLeft made sets c → sets + 1 < 2 ^ 63) (λ r i a v numbered. numbered) command is
 
   pub cas_is_no_leave : command ≢ commands.Leave
   cas_is_no_leave leaves = subst IsCas leaves is
@@ -44,10 +44,10 @@ module _ (command : Command) (is : IsCas command) where
 
   module _ (g : Graph) (made : List Id) (owner : ℕ → Owner) (fragments : ℕ → List ℕ) (number word : ℕ) where
     -- the cell is the one that the register was read with: the reply is the stamp before
-    pub says_was : (finds : FindsCell g made owner fragments number command word) → finds.cell ≡ register_cell g number (expected_of command) → (graph_seat g number).sets + 1 < 2 ^ 26
+    pub says_was : (finds : FindsCell g made owner fragments number command word) → finds.cell ≡ register_cell g number (expected_of command) → (graph_seat g number).sets + 1 < 2 ^ 63
         → Says g number command (replies.Was (stamp_of word))
     says_was =
-        cas_only (λ c. (finds : FindsCell g made owner fragments number c word) → finds.cell ≡ register_cell g number (expected_of c) → (graph_seat g number).sets + 1 < 2 ^ 26 → Says g number c (replies.Was (stamp_of word)))
+        cas_only (λ c. (finds : FindsCell g made owner fragments number c word) → finds.cell ≡ register_cell g number (expected_of c) → (graph_seat g number).sets + 1 < 2 ^ 63 → Says g number c (replies.Was (stamp_of word)))
         (λ r i a v finds same few. subst (λ (x : Result Cell Reply). Swaps (graph_seat g number).sets (register_cell g number a) x (replies.Was (stamp_of word)))
         (sym (ap (λ (x : Value). cell_or_refusal (target_node g x) i) finds.refers ∙ ap (λ (o : Option Node). cell_or_refusal o i) finds.there ∙ ap (λ (c : Option Cell). or_no_field c) finds.has))
         (same, finds.stamp_is, few)) command is

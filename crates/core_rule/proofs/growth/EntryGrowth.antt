@@ -10,7 +10,7 @@ use Rattle.heap_model.specs.declared.entry.Entry.TheVariants as entries
 use Rattle.heap_model.specs.declared.graph.cell.Cell.{Cell}
 use Rattle.heap_model.specs.declared.id.Value.TheVariants.{Nil, Number, Object}
 use Rattle.heap_model.specs.declared.reply.Reply.TheVariants as replies
-use Rattle.heap_model.specs.Limits.{stamp_limit}
+use Rattle.heap_model.specs.Limits.{set_limit}
 use Rattle.heap_model.specs.graph.Replies.{Says, Gets, SwapsAt}
 use Rattle.core_rule.proofs.growth.Growing.{CameFrom, was_held, was_read, IsSameSize, GrowsFrom}
 use Rattle.core_rule.proofs.growth.RegisterIds.{RegisterHolds}
@@ -113,7 +113,7 @@ module _ (g : Graph) (number : ℕ) (present : IsPresent g number) where
   -- a set that is no refusal finds its cell
   pub set_finds_its_cell : (r i v stamp : ℕ) → Says g number (commands.Set r i v) (replies.Was stamp) → (cell : Cell) × HasCell g (register_value g number r) i cell
   set_finds_its_cell r i v stamp sets =
-      let found = found_cell g (register_value g number r) i (replies.Was stamp) (λ cell reply. (reply ≡ replies.Was cell.stamp) × ((graph_seat g number).sets + 1 < stamp_limit)) (λ e. cc e) (λ e. cc e) sets in
+      let found = found_cell g (register_value g number r) i (replies.Was stamp) (λ cell reply. (reply ≡ replies.Was cell.stamp) × ((graph_seat g number).sets + 1 < set_limit)) (λ e. cc e) (λ e. cc e) sets in
       (found.0, found.1)
 
   -- nor is a cas that swapped

@@ -91,7 +91,7 @@ module _ (heap : Heap) (state : State) (book : Book) (number : ℕ) (rule : Rule
   abbrev pub words_written : List ℕ
   words_written = put heap state.words (Word seat.reached seat.part) (new_word_of number seat)
 
-  pub keeps_rule_by_write : WorksOnObject seat → seat.sets + 1 < 2 ^ 26 → IsWrite g number seat.command (stamp_of found) → (FindsCell g book.made book.owner book.fragments number seat.command found → (graph_seat g number).sets + 1 < 2 ^ 26 → Says g number seat.command (replies.Was (stamp_of found)))
+  pub keeps_rule_by_write : WorksOnObject seat → seat.sets + 1 < 2 ^ 63 → IsWrite g number seat.command (stamp_of found) → (FindsCell g book.made book.owner book.fragments number seat.command found → (graph_seat g number).sets + 1 < 2 ^ 63 → Says g number seat.command (replies.Was (stamp_of found)))
       → Writes heap state book number → IsMachine heap (record state { words = words_written; seats = slice_set state.seats number seat_written })
       → Keeps heap state (record state { words = words_written; seats = slice_set state.seats number seat_written }) book book.begun (entries.Said number seat.command (replies.Was (stamp_of found)) ∷ [])
   keeps_rule_by_write works numbered is_write says writes machine =
@@ -116,7 +116,7 @@ module _ (heap : Heap) (state : State) (book : Book) (number : ℕ) (rule : Rule
       let now : Graph = after_reply g number seat.command (replies.Was stamp) in
       let grown : now ≡ write (count_set g number) (values.Object id) i cell = is_write.grown ∙ ap (λ (x : Value). write (count_set g number) x i cell) object_refers in
       let sets : Sets g now number id i cell = subst (λ (x : Graph). Sets g x number id i cell) (sym grown) (write_sets_cell g number id i cell object present there) in
-      let few : (graph_seat g number).sets + 1 < 2 ^ 26 = omega (arith, numbered, stands.told.counts.stamped) in
+      let few : (graph_seat g number).sets + 1 < 2 ^ 63 = omega (arith, numbered, stands.told.counts.stamped) in
       let is_word : word ≡ value_word (object_head book.made book.fragments) cell.value cell.stamp
       = register_word_is_value_word book.made book.owner book.fragments (register_in seat.registers (source_of seat.command)) cell.value (set_stamp number (seat.sets + 1)) (field_registers_hold (source_of seat.command))
       ∙ ap (λ s. value_word (object_head book.made book.fragments) cell.value (set_stamp number (s + 1))) stands.told.counts.stamped in

@@ -40,9 +40,10 @@ ComesTo old new (turns.Waits seat answered phase) =
 ComesTo old new (turns.Ended cycle kept) =
     (new.log ≡ old.log ++ entries.Ends cycle kept ∷ []) × (old.phase ≡ cycle_phases * cycle + clearing) × (new.phase ≡ cycle_phases * cycle + cycle_phases)
 
--- one turn was made, and this is its answer
+-- one turn was made, and this is its answer; where there was room for it, no more was made
 pub record Turns (old new : CollectorState) (turn : Turn) : Type 0 where
   pub comes_to : ComesTo old new turn
   pub spare : old.spare + length old.log ≤ new.spare + length new.log
+  pub no_more : 2 ≤ old.spare → new.spare ≤ old.spare
   pub counted : new.turns ≡ min (old.turns + 1) (2 ^ 64 - 1)
   pub last : new.last_turn ≡ Some turn

@@ -1,6 +1,6 @@
 -- When a seat may be called, and which entries each call adds.
 use Rattle.std.specs.Prelude.{◌≡◌, ℕ, ◌+◌, ◌*◌, ◌==◌, ◌<◌, ◌≤◌, ◌⊎◌, if◌then◌else◌, false, List, [], ◌∷◌, ◌++◌, length, map, sum, All}
-use Rattle.heap_model.specs.Limits.{group_fragments, most_reserve, name_limit, stamp_limit}
+use Rattle.heap_model.specs.Limits.{group_fragments, most_reserve, name_limit, set_limit}
 use Rattle.heap_model.specs.declared.command.Command.{Command}
 use Rattle.heap_model.specs.declared.command.Command.TheVariants as commands
 use Rattle.heap_model.specs.declared.reply.Reply.{Reply}
@@ -13,12 +13,12 @@ use Rattle.heap_model.specs.account.PhaseCounts.{last_answer}
 use Rattle.heap_model.specs.account.Space.{taken_of, spent_of}
 use Rattle.heap_model.specs.calls.SeatState.{SeatState, own_graph_seat}
 
--- a name is left for an object that the command makes, or a stamp for a cell that it sets
+-- a name is left for an object that the command makes, or one of its sets for a cell that it sets
 abbrev pub HasNumber : SeatState → Command → Type 0
 HasNumber seat (commands.New d fields) = length (own_graph_seat seat).objects + 1 < name_limit
 HasNumber seat (commands.Array d cells) = length (own_graph_seat seat).objects + 1 < name_limit
-HasNumber seat (commands.Set r i v) = (own_graph_seat seat).sets + 1 < stamp_limit
-HasNumber seat (commands.Cas r i a v) = (own_graph_seat seat).sets + 1 < stamp_limit
+HasNumber seat (commands.Set r i v) = (own_graph_seat seat).sets + 1 < set_limit
+HasNumber seat (commands.Cas r i a v) = (own_graph_seat seat).sets + 1 < set_limit
 HasNumber seat _ = Unit {0}
 
 -- the seat may be given the command
@@ -87,7 +87,7 @@ ComesBefore number unborn last commands.Leave reply before = before ≡ last_giv
 ComesBefore number unborn last commands.Collect reply before = ⊥
 ComesBefore number unborn last _ reply before = before ≡ []
 
--- the seat got its entries for the command, the reply last, and lost no more room than they take
+-- the seat got its entries for the command, the reply last; it lost no more room than they take, and got none
 pub record Adds (old new : SeatState) (command : Command) (reply : Reply) : Type 0 where
   pub heap : new.heap ≡ old.heap
   pub number : new.number ≡ old.number
@@ -97,3 +97,4 @@ pub record Adds (old new : SeatState) (command : Command) (reply : Reply) : Type
   pub comes : ComesBefore old.number unborn (last_answer old.number old.mine) command reply before
   pub entries : new.mine ≡ old.mine ++ (before ++ Said old.number command reply ∷ [])
   pub spare : old.spare + length old.mine ≤ new.spare + length new.mine
+  pub no_more : new.spare ≤ old.spare

@@ -54,7 +54,7 @@ most_made (New d fields) = 1
 most_made (Array d cells) = 1
 most_made _ = 0
 
--- how many stamps of the seat a call of the command uses up at most
+-- how many sets of the seat a call of the command uses up at most
 abbrev pub most_stamped : Command → ℕ
 most_stamped (Set r i v) = 1
 most_stamped (Cas r i a v) = 1

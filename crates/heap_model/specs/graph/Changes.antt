@@ -38,15 +38,15 @@ write g (Number n) i cell = g
 write g (Object Board) i cell = record g { board = with_cell g.board i cell }
 write g (Object (Made other count)) i cell = with_graph_seat g other (with_object_cell (graph_seat g other) count i cell)
 
--- the stamp of the n-th set of a seat, its cas that swapped counted too
+-- the stamp of the n-th set of a seat, its cas that swapped counted too: whose it is, and which but for a multiple of 2^26
 abbrev pub set_stamp : ℕ → ℕ → ℕ
-set_stamp number n = (number + 1) * stamp_limit + n
+set_stamp number n = (number + 1) * stamp_limit + n % stamp_limit
 
 -- the seat that set a cell with this stamp
 abbrev pub stamp_seat : ℕ → ℕ
 stamp_seat stamp = stamp / stamp_limit - 1
 
--- and which of its sets that was
+-- and which of its sets that was, but for a multiple of 2^26
 abbrev pub stamp_count : ℕ → ℕ
 stamp_count stamp = stamp % stamp_limit
 

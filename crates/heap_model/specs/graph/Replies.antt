@@ -1,6 +1,6 @@
 -- Which replies the graph gives to a seat's command.
 use Rattle.std.specs.Prelude.{◌≡◌, ◌≢◌, ℕ, ◌+◌, ◌<◌, length, Option, Some, None, Result, MatchResult}
-use Rattle.heap_model.specs.Limits.{stamp_limit}
+use Rattle.heap_model.specs.Limits.{set_limit}
 use Rattle.heap_model.specs.declared.id.Id.TheVariants.{Made}
 use Rattle.heap_model.specs.declared.command.Command.{Command}
 use Rattle.heap_model.specs.declared.command.Command.TheVariants as commands
@@ -25,13 +25,13 @@ MakesArray g number reply = Makes g number reply
 abbrev pub Gets : Result Cell Reply → Reply → Type 0
 Gets found reply = MatchResult found (λ cell. reply ≡ replies.Got cell.value cell.stamp) (λ refusal. reply ≡ refusal)
 
--- a set answers the stamp before it; and a stamp is left for it
+-- a set answers the stamp before it; and the seat may set once more
 abbrev pub Sets : ℕ → Result Cell Reply → Reply → Type 0
-Sets sets found reply = MatchResult found (λ cell. (reply ≡ replies.Was cell.stamp) × (sets + 1 < stamp_limit)) (λ refusal. reply ≡ refusal)
+Sets sets found reply = MatchResult found (λ cell. (reply ≡ replies.Was cell.stamp) × (sets + 1 < set_limit)) (λ refusal. reply ≡ refusal)
 
 -- a cas finds the cell as the register was read, and answers its stamp as a set does; or it finds another value or stamp, and answers the stamp found
 abbrev pub SwapsAt : ℕ → Cell → Cell → Reply → Type 0
-SwapsAt sets seen cell (replies.Was stamp) = (cell ≡ seen) × (stamp ≡ cell.stamp) × (sets + 1 < stamp_limit)
+SwapsAt sets seen cell (replies.Was stamp) = (cell ≡ seen) × (stamp ≡ cell.stamp) × (sets + 1 < set_limit)
 SwapsAt sets seen cell (replies.Now stamp) = (cell ≢ seen) × (stamp ≡ cell.stamp)
 SwapsAt sets seen cell _ = ⊥
 

@@ -1,7 +1,7 @@
 ghost use Rattle.std.specs.Prelude.{◌≡◌, ℕ, ◌+◌, ◌-◌, ◌≤◌, ◌^◌, ◌↔◌, length, IsTrue, IsErr, IfOk, IfErr, OnOk, OnErr, IfSome};
 ghost use Rattle.heap_model.specs.declared.command.Command.TheVariants.{New, Array, Get, Set, Cas, Num, Nil, Copy, Same, Len, Poll, Leave};
 ghost use Rattle.heap_model.specs.declared.reply.Reply.TheVariants.{Phase, Done};
-ghost use Rattle.heap_model.specs.Limits.{name_limit, stamp_limit};
+ghost use Rattle.heap_model.specs.Limits.{name_limit, set_limit};
 ghost use Rattle.heap_model.specs.Needs.{record_fragments};
 ghost use Rattle.heap_model.specs.calls.SeatState.{SeatState, own_graph_seat, held_value, HoldsNoObject, own_object};
 ghost use Rattle.heap_model.specs.calls.SeatCalls.{IsReady, Adds};
@@ -115,8 +115,8 @@ pub trait SeatCalls {
         ensures { result + length (own_graph_seat (state self.now)).objects ≡ name_limit - 1 };
 
     /// How many more sets the seat can do.
-    fn stamps_left(&self) -> u32
-        ensures { result + (own_graph_seat (state self.now)).sets ≡ stamp_limit - 1 };
+    fn sets_left(&self) -> u64
+        ensures { result + (own_graph_seat (state self.now)).sets ≡ set_limit - 1 };
 
     /// Whether the seat has left. Whatever it did, its heap is within the limits, and its entries are its own.
     fn left(&self) -> bool

@@ -92,14 +92,15 @@ impl Graph {
     /// Does a set of the seat, or a cas that swaps: the value of its register `v` goes into a cell.
     fn set(&mut self, seat: u8, r: u8, i: u32, v: u8)
         requires seat { seat < length self.old.seats }
-        requires sets { (graph_seat self.old seat).sets + 1 < 2 ^ 26 }
+        requires sets { (graph_seat self.old seat).sets + 1 < 2 ^ 63 }
         ensures { self.new ≡ set_cell self.old seat r i v }
     {
         let place = self.register(seat, r).value;
         let value = self.register(seat, v).value;
         let party = &mut self.seats[seat as usize];
         party.count_set();
-        let stamp = (seat as u32 + 1) * STAMP_LIMIT + party.sets();
+        let count = party.sets() % u64::from(STAMP_LIMIT);
+        let stamp = (seat as u32 + 1) * STAMP_LIMIT + count as u32;
         self.write(place, i, Cell { value, stamp });
     }
 

@@ -4,11 +4,11 @@ use crate::command::Command;
 use crate::entry::Entry;
 use crate::graph::Graph;
 use crate::id::Id;
-use crate::limits::STAMP_LIMIT;
+use crate::limits::SET_LIMIT;
 use crate::reply::Reply;
 
 impl Graph {
-    ghost use Rattle.heap_model.specs.Limits.{stamp_limit};
+    ghost use Rattle.heap_model.specs.Limits.{set_limit};
     ghost use Rattle.heap_model.specs.graph.Objects.{graph_seat, cell_at, register_cell, register_value, target_node};
     ghost use Rattle.heap_model.specs.graph.Legal.{Accepts};
     ghost use Rattle.heap_model.specs.graph.Replies.{Says, Makes, Gets, Sets, Swaps, Compares, length_reply};
@@ -82,7 +82,7 @@ impl Graph {
         ensures { IsTrue result ↔ Sets (graph_seat self.now seat).sets (cell_at self.now seat r i) reply }
     {
         match self.cell(seat, r, i) {
-            Ok(cell) => reply == Reply::Was(cell.stamp) && self.has_stamp(seat),
+            Ok(cell) => reply == Reply::Was(cell.stamp) && self.has_set_left(seat),
             Err(refusal) => reply == refusal,
         }
     }
@@ -93,7 +93,7 @@ impl Graph {
         let seen = self.register(seat, a);
         match (self.cell(seat, r, i), reply) {
             (Ok(cell), Reply::Was(stamp)) => {
-                cell == seen && stamp == cell.stamp && self.has_stamp(seat)
+                cell == seen && stamp == cell.stamp && self.has_set_left(seat)
             }
             (Ok(cell), Reply::Now(stamp)) => cell != seen && stamp == cell.stamp,
             (Ok(_), _) => false,
@@ -101,11 +101,11 @@ impl Graph {
         }
     }
 
-    /// Whether the seat has a stamp left for one more set.
-    fn has_stamp(&self, seat: u8) -> bool
-        ensures { IsTrue result ↔ ((graph_seat self.now seat).sets + 1 < stamp_limit) }
+    /// Whether one more set is left to the seat.
+    fn has_set_left(&self, seat: u8) -> bool
+        ensures { IsTrue result ↔ ((graph_seat self.now seat).sets + 1 < set_limit) }
     {
-        self.set_count(seat) < STAMP_LIMIT - 1
+        self.set_count(seat) < SET_LIMIT - 1
     }
 
     fn compares(&self, seat: u8, a: u8, b: u8, reply: Reply) -> bool

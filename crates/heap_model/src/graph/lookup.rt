@@ -32,7 +32,7 @@ impl Graph {
         }
     }
 
-    pub(super) fn set_count(&self, seat: u8) -> u32
+    pub(super) fn set_count(&self, seat: u8) -> u64
         ensures { result ≡ (graph_seat self.now seat).sets }
     {
         match self.seats.get(seat as usize) {

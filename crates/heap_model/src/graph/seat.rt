@@ -14,7 +14,7 @@ use std::marker::Model;
 pub struct Seat {
     registers: [Cell; REGISTER_COUNT],
     objects: Vec<Object>,
-    sets: u32,
+    sets: u64,
     left: bool,
 }
 
@@ -31,7 +31,7 @@ impl Model for Seat {
 }
 
 impl Seat {
-    ghost use Rattle.heap_model.specs.Limits.{last_register, name_limit, register_count, stamp_limit};
+    ghost use Rattle.heap_model.specs.Limits.{last_register, name_limit, register_count, set_limit};
     ghost use Rattle.heap_model.specs.graph.Graph.{opening_graph_seat, unseen, unset};
     ghost use Rattle.heap_model.specs.graph.Changes.{with_object_cell};
 
@@ -54,7 +54,7 @@ impl Seat {
         self.left
     }
 
-    pub fn sets(&self) -> u32
+    pub fn sets(&self) -> u64
         ensures { result ≡ self.now.sets }
     {
         self.sets
@@ -123,7 +123,7 @@ impl Seat {
     }
 
     pub fn count_set(&mut self)
-        requires { self.old.sets + 1 < stamp_limit }
+        requires { self.old.sets + 1 < set_limit }
         ensures { self.new ≡ record self.old { sets = self.old.sets + 1 } }
     {
         self.sets += 1;

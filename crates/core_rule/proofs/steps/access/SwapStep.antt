@@ -28,18 +28,18 @@ set_only P set _ is = absurd is
 
 module _ (command : Command) (is : IsSet command) where
   -- it has a number left
-  set_numbered : (made sets : ℕ) → HasNumberLeft made sets command → sets + 1 < 2 ^ 26
-  set_numbered made sets = set_only (λ c. HasNumberLeft made sets c → sets + 1 < 2 ^ 26) (λ r i v numbered. numbered) command is
+  set_numbered : (made sets : ℕ) → HasNumberLeft made sets command → sets + 1 < 2 ^ 63
+  set_numbered made sets = set_only (λ c. HasNumberLeft made sets c → sets + 1 < 2 ^ 63) (λ r i v numbered. numbered) command is
 
   -- it puts its register's value into its field, shows no phase, and its seat may keep fifteen fragments
   set_is_write : (g : Graph) (number stamp : ℕ) → IsWrite g number command stamp
   set_is_write g number stamp = set_only (λ c. IsWrite g number c stamp) (λ r i v. record { grown = refl; shows = λ heap history. tt; most = refl; stays = λ e. cc e }) command is
 
   -- the graph answers the stamp that the cell had
-  set_says : (g : Graph) (made : List Id) (owner : ℕ → Owner) (fragments : ℕ → List ℕ) (number word : ℕ) → FindsCell g made owner fragments number command word → (graph_seat g number).sets + 1 < 2 ^ 26
+  set_says : (g : Graph) (made : List Id) (owner : ℕ → Owner) (fragments : ℕ → List ℕ) (number word : ℕ) → FindsCell g made owner fragments number command word → (graph_seat g number).sets + 1 < 2 ^ 63
       → Says g number command (replies.Was (stamp_of word))
   set_says g made owner fragments number word =
-      set_only (λ c. FindsCell g made owner fragments number c word → (graph_seat g number).sets + 1 < 2 ^ 26 → Says g number c (replies.Was (stamp_of word)))
+      set_only (λ c. FindsCell g made owner fragments number c word → (graph_seat g number).sets + 1 < 2 ^ 63 → Says g number c (replies.Was (stamp_of word)))
       (λ r i v finds few.
       let found : cell_at g number r i ≡ Ok finds.cell
       = ap (λ (x : Value). cell_or_refusal (target_node g x) i) finds.refers ∙ ap (λ (o : Option Node). cell_or_refusal o i) finds.there ∙ ap (λ (c : Option Cell). or_no_field c) finds.has in

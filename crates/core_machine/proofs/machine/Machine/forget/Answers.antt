@@ -2,9 +2,9 @@ use Rattle.std.proofs.Common.{◌≡◌, ◌≢◌, ℕ, ◌<◌, length, refl, 
 use Rattle.std.proofs.Math.ListN.{length-map}
 use Rattle.core_machine.proofs.Terms.{SeatWithRoom}
 use Rattle.core_machine.proofs.machine_lemmas.Parties.{other_party_keeps_number, each_but_last}
-use Rattle.core_machine.proofs.machine_lemmas.Stepping.{room_leaves_state, room_leaves_machine, spare_was_partys, own_spare_is_partys}
+use Rattle.core_machine.proofs.machine_lemmas.Stepping.{room_leaves_state, room_leaves_machine, spare_was_partys, own_spare_is_partys, own_forgotten_are_partys}
 use Rattle.core_machine.specs.machine.Value.{CollectorWithRoom}
-use Rattle.core_machine.proofs.machine_lemmas.PartyRoom.{collector_room_leaves_machine, collector_forgets, collector_gets_room}
+use Rattle.core_machine.proofs.machine_lemmas.PartyRoom.{collector_room_leaves_machine, collector_forgets, collector_gets_room, collector_has_forgotten}
 use Rattle.core_machine.proofs.machine.Machine.forget.Goals as goal
 
 pub invariant_of-self : goal.invariant_of-self
@@ -68,3 +68,17 @@ returns-else-party-len-clause-more g c =
     let same = ap (λ (p : CollectorWithRoom). p.collector) c.forget-else-party-len.ensures.same in
     collector_gets_room _ _ _ _ _ _ _ c.self.view_is next.collector next.spare next.forgotten same c.args.party
     (omega (arith, c.if-party-len.false, c.len.ensures)) c.requires c.forget-else-party-len.ensures.spare
+
+pub returns-then-party-len-clause-forgotten : goal.returns-then-party-len-clause-forgotten
+returns-then-party-len-clause-forgotten g c =
+    let m = c.self.inside in
+    let within : c.args.party < length m.seats.items = omega arith in
+    rw (← c.self.view_is) (own_forgotten_are_partys m.heap m.words.items m.seats.items m.collector.collector m.collector.spare m.collector.forgotten c.args.party c.index_mut-seat.result.now c.forget.new.self within c.index_mut-seat.ensures.value
+    g.L.ShowsRecent.forgets c.forget.ensures.forgotten)
+
+pub returns-else-party-len-clause-forgotten : goal.returns-else-party-len-clause-forgotten
+returns-else-party-len-clause-forgotten g c =
+    let next = c.forget-else-party-len.new.self in
+    let same = ap (λ (p : CollectorWithRoom). p.collector) c.forget-else-party-len.ensures.same in
+    collector_has_forgotten _ _ _ _ _ _ _ c.self.view_is next.collector next.spare next.forgotten same c.args.party
+    (omega (arith, c.if-party-len.false, c.len.ensures)) c.requires g.L.ShowsRecent.forgets c.forget-else-party-len.ensures.forgotten

@@ -43,4 +43,4 @@ pub returns-clause-answer : goal.returns-clause-answer
 returns-clause-answer g c = turn_answer _ _ _ _ _ _ _ c.args.step.now c.self.view_is c.requires.due _ _ c.learn-answer.ensures.answer
 
 pub returns-clause-spent : goal.returns-clause-spent
-returns-clause-spent g c = turn_spends _ _ _ _ _ _ _ _ _ _ _ c.self.view_is c.learn-answer.ensures.forgotten c.learn-answer.ensures.spare
+returns-clause-spent g c = turn_spends _ _ _ _ _ _ _ _ _ _ _ c.self.view_is c.learn-answer.ensures.forgotten c.learn-answer.ensures.spare c.learn-answer.ensures.no_more

@@ -89,7 +89,7 @@ returns-in-Granting-clause-seat g c = rw c.in-Granting.is (adds_nothing _ _ c.le
 pub returns-in-Granting-clause-spare : goal.returns-in-Granting-clause-spare
 returns-in-Granting-clause-spare g c =
     let same = budget_adds_nothing c.args.heap.now c.args.self.now.seat c.args.found in
-    rw (c.learn_budget.ensures.seat, same, c.learn_budget.ensures.spare) (omega arith)
+    rw (c.learn_budget.ensures.seat, same, c.learn_budget.ensures.spare) (omega arith, omega arith)
 
 pub returns-in-Granting-clause-forgotten : goal.returns-in-Granting-clause-forgotten
 returns-in-Granting-clause-forgotten g c = c.learn_budget.ensures.forgotten
@@ -134,7 +134,7 @@ pub returns-in-Placing-clause-seat : goal.returns-in-Placing-clause-seat
 returns-in-Placing-clause-seat g c = rw c.in-Placing.is (adds_nothing _ _ c.learn_spine.ensures.seat)
 
 pub returns-in-Placing-clause-spare : goal.returns-in-Placing-clause-spare
-returns-in-Placing-clause-spare g c = rw (c.learn_spine.ensures.seat, c.learn_spine.ensures.spare) (omega arith)
+returns-in-Placing-clause-spare g c = rw (c.learn_spine.ensures.seat, c.learn_spine.ensures.spare) (omega arith, omega arith)
 
 pub returns-in-Placing-clause-forgotten : goal.returns-in-Placing-clause-forgotten
 returns-in-Placing-clause-forgotten g c = c.learn_spine.ensures.forgotten
@@ -143,7 +143,7 @@ pub returns-in-Listing-clause-seat : goal.returns-in-Listing-clause-seat
 returns-in-Listing-clause-seat g c = rw c.in-Listing.is (adds_nothing _ _ c.learn_listing.ensures.seat)
 
 pub returns-in-Listing-clause-spare : goal.returns-in-Listing-clause-spare
-returns-in-Listing-clause-spare g c = rw (c.learn_listing.ensures.seat, c.learn_listing.ensures.spare) (omega arith)
+returns-in-Listing-clause-spare g c = rw (c.learn_listing.ensures.seat, c.learn_listing.ensures.spare) (omega arith, omega arith)
 
 pub returns-in-Listing-clause-forgotten : goal.returns-in-Listing-clause-forgotten
 returns-in-Listing-clause-forgotten g c = c.learn_listing.ensures.forgotten
@@ -152,7 +152,7 @@ pub returns-in-Storing-clause-seat : goal.returns-in-Storing-clause-seat
 returns-in-Storing-clause-seat g c = rw c.in-Storing.is (adds_nothing _ _ c.learn_store.ensures.seat)
 
 pub returns-in-Storing-clause-spare : goal.returns-in-Storing-clause-spare
-returns-in-Storing-clause-spare g c = rw (c.learn_store.ensures.seat, c.learn_store.ensures.spare) (omega arith)
+returns-in-Storing-clause-spare g c = rw (c.learn_store.ensures.seat, c.learn_store.ensures.spare) (omega arith, omega arith)
 
 pub returns-in-Storing-clause-forgotten : goal.returns-in-Storing-clause-forgotten
 returns-in-Storing-clause-forgotten g c = c.learn_store.ensures.forgotten

@@ -6,7 +6,7 @@ use Rattle.heap_model.proofs.graph.Graph.sets.Goals as goal
 pub returns-then-eq : goal.returns-then-eq
 returns-then-eq c =
     rw (sym c.cell.ensures ∙ c.in-Ok.is)
-    (λ t. ((was_decided c.in-Ok.cell.stamp c.args.reply c.eq.result c.eq.ensures).0 c.if-eq.true, c.has_stamp.ensures.0 t), λ told. c.has_stamp.ensures.1 told.1)
+    (λ t. ((was_decided c.in-Ok.cell.stamp c.args.reply c.eq.result c.eq.ensures).0 c.if-eq.true, c.has_set_left.ensures.0 t), λ told. c.has_set_left.ensures.1 told.1)
 
 pub returns-else-eq : goal.returns-else-eq
 returns-else-eq c =

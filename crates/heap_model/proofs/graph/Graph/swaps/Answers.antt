@@ -10,7 +10,7 @@ returns-then-stamp-cell c =
     let found = c.in-Ok-Was in
     let same = (Decides-at _ _ c.eq.ensures (equal_cells found.cell c.register-seen.result)).0 c.if-stamp-cell.true.0 in
     rw (sym c.cell.ensures ∙ found.is-0, found.is-1, ← c.register-seen.ensures)
-    (λ t. (same, c.if-stamp-cell.true.1, c.has_stamp.ensures.0 t), λ told. c.has_stamp.ensures.1 told.2)
+    (λ t. (same, c.if-stamp-cell.true.1, c.has_set_left.ensures.0 t), λ told. c.has_set_left.ensures.1 told.2)
 
 pub returns-else-stamp-cell : goal.returns-else-stamp-cell
 returns-else-stamp-cell c =
