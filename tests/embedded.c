@@ -52,8 +52,8 @@ static void is(const char *what, unsigned long long got, unsigned long long want
     }
 }
 
-static fodderpause_handle collector = FODDERPAUSE_NONE;
-static fodderpause_handle seats[2] = {FODDERPAUSE_NONE, FODDERPAUSE_NONE};
+static fodderpause_collector collector = FODDERPAUSE_NO_COLLECTOR;
+static fodderpause_seat seats[2] = {FODDERPAUSE_NO_SEAT, FODDERPAUSE_NO_SEAT};
 
 /* Where memory is given a few times and then not, all that was given is given back. */
 static void open_without_memory(void)
@@ -70,9 +70,9 @@ static void open_without_memory(void)
         }
     }
     is("memory was not wanting", code, FODDERPAUSE_DONE);
-    is("let go", fodderpause_drop(&seats[1]), FODDERPAUSE_DONE);
-    is("let go", fodderpause_drop(&collector), FODDERPAUSE_DONE);
-    is("let go", fodderpause_drop(&seats[0]), FODDERPAUSE_DONE);
+    is("let go", fodderpause_drop_seat(&seats[1]), FODDERPAUSE_DONE);
+    is("let go", fodderpause_drop_collector(&collector), FODDERPAUSE_DONE);
+    is("let go", fodderpause_drop_seat(&seats[0]), FODDERPAUSE_DONE);
     is("all is given back", blocks, 0);
 }
 
@@ -91,20 +91,49 @@ static void open_refused(void)
     is("open again", fodderpause_make(2, 8, 32, &collector, seats, 2), FODDERPAUSE_IS_HELD);
 }
 
-static void call_refused(fodderpause_handle *seat)
+/* Numbers that were in their range if only their lower bits counted. */
+static void call_with_too_large(fodderpause_seat *seat)
 {
-    is("register 16", fodderpause_new(seat, 16, 2).code, FODDERPAUSE_OUT_OF_RANGE);
+    fodderpause_seat other = FODDERPAUSE_NO_SEAT;
+    fodderpause_collector its_collector = FODDERPAUSE_NO_COLLECTOR;
+    is("65537 groups", fodderpause_make(65537, 0, 32, &its_collector, &other, 1), FODDERPAUSE_OUT_OF_RANGE);
+    is("65536 spine words", fodderpause_make(1, 65536, 32, &its_collector, &other, 1), FODDERPAUSE_OUT_OF_RANGE);
+    is("a board of 288", fodderpause_make(1, 0, 288, &its_collector, &other, 1), FODDERPAUSE_OUT_OF_RANGE);
+    is("257 seats", fodderpause_make(1, 0, 32, &its_collector, &other, 257), FODDERPAUSE_OUT_OF_RANGE);
+    is("register 257 for a record", fodderpause_new_record(seat, 257, 2).code, FODDERPAUSE_OUT_OF_RANGE);
+    is("65538 fields", fodderpause_new_record(seat, 1, 65538).code, FODDERPAUSE_OUT_OF_RANGE);
+    is("65544 cells", fodderpause_new_array(seat, 1, 65544).code, FODDERPAUSE_OUT_OF_RANGE);
+    is("register 256 read", fodderpause_get(seat, 1, 256, 0).code, FODDERPAUSE_OUT_OF_RANGE);
+    is("index 2^16", fodderpause_get(seat, 1, 0, 65536).code, FODDERPAUSE_OUT_OF_RANGE);
+    is("register 257 set", fodderpause_set(seat, 0, 0, 257).code, FODDERPAUSE_OUT_OF_RANGE);
+    is("register 257 compared", fodderpause_cas(seat, 0, 0, 257, 1).code, FODDERPAUSE_OUT_OF_RANGE);
+    is("number 2^32 + 7", fodderpause_load_number(seat, 1, (1ull << 32) + 7).code, FODDERPAUSE_OUT_OF_RANGE);
+    is("number 2^64 - 1", fodderpause_load_number(seat, 1, UINT64_MAX).code, FODDERPAUSE_OUT_OF_RANGE);
+    is("nil in register 257", fodderpause_nil(seat, 257).code, FODDERPAUSE_OUT_OF_RANGE);
+    is("register 257 copied", fodderpause_copy(seat, 1, 257).code, FODDERPAUSE_OUT_OF_RANGE);
+    is("registers 1 and 257", fodderpause_same(seat, 1, 257).code, FODDERPAUSE_OUT_OF_RANGE);
+    is("the length in register 256", fodderpause_length(seat, 256).code, FODDERPAUSE_OUT_OF_RANGE);
+    is("seat 257 behind", fodderpause_behind(seat, 257).code, FODDERPAUSE_OUT_OF_RANGE);
+    is("seat 257 noted", fodderpause_note_waits(seat, 257, 0, 1), FODDERPAUSE_NOT_FOUND);
+    is("register 1 is nil still", fodderpause_length(seat, 1).code, FODDERPAUSE_NO_OBJECT);
+}
+
+static void call_refused(fodderpause_seat *seat)
+{
+    is("register 16", fodderpause_new_record(seat, 16, 2).code, FODDERPAUSE_OUT_OF_RANGE);
     is("register 0 written", fodderpause_nil(seat, 0).code, FODDERPAUSE_OUT_OF_RANGE);
-    is("48 fields", fodderpause_new(seat, 1, 48).code, FODDERPAUSE_OUT_OF_RANGE);
+    is("48 fields", fodderpause_new_record(seat, 1, 48).code, FODDERPAUSE_OUT_OF_RANGE);
     is("index 4097", fodderpause_get(seat, 1, 0, 4097).code, FODDERPAUSE_OUT_OF_RANGE);
-    is("number 2^30", fodderpause_num(seat, 1, 1u << 30).code, FODDERPAUSE_OUT_OF_RANGE);
+    is("number 2^30", fodderpause_load_number(seat, 1, 1u << 30).code, FODDERPAUSE_OUT_OF_RANGE);
     is("a field of nil", fodderpause_get(seat, 2, 1, 0).code, FODDERPAUSE_NO_OBJECT);
     is("field 32 of the board", fodderpause_set(seat, 0, 32, 1).code, FODDERPAUSE_NO_FIELD);
-    fodderpause_made made = fodderpause_array(seat, 1, 40);
+    fodderpause_made made = fodderpause_new_array(seat, 1, 40);
     is("ten spine words of eight", made.code, FODDERPAUSE_SPINE_FULL);
     is("needed", made.need, 10);
-    is("a seat's turn", fodderpause_turn(seat).code, FODDERPAUSE_NO_PARTY);
-    is("a collector's poll", fodderpause_poll(&collector).code, FODDERPAUSE_NO_PARTY);
+    is("a seat's turn", fodderpause_turn((fodderpause_collector *) (void *) seat).code, FODDERPAUSE_NO_PARTY);
+    is("a collector's poll", fodderpause_poll((fodderpause_seat *) (void *) &collector).code, FODDERPAUSE_NO_PARTY);
+    is("a collector let go as a seat", fodderpause_drop_seat((fodderpause_seat *) (void *) &collector), FODDERPAUSE_NO_PARTY);
+    is("a seat let go as a collector", fodderpause_drop_collector((fodderpause_collector *) (void *) seat), FODDERPAUSE_NO_PARTY);
     is("seat 2 behind", fodderpause_behind(seat, 2).code, FODDERPAUSE_OUT_OF_RANGE);
     is("a cycle noted", fodderpause_note_cycle(seat, 0), FODDERPAUSE_NOT_FOUND);
     is("a seat folded in", fodderpause_fold_in(&collector, seat), FODDERPAUSE_HAS_NOT_LEFT);
@@ -112,13 +141,13 @@ static void call_refused(fodderpause_handle *seat)
 }
 
 /* The heap has 32 fragments, of which the board has eleven. */
-static void call(fodderpause_handle *seat)
+static void call(fodderpause_seat *seat)
 {
-    fodderpause_made made = fodderpause_new(seat, 1, 2);
+    fodderpause_made made = fodderpause_new_record(seat, 1, 2);
     is("a record", made.code, FODDERPAUSE_DONE);
     is("its seat", made.seat, 0);
     is("its number", made.count, 0);
-    is("a number", fodderpause_num(seat, 2, 7).code, FODDERPAUSE_DONE);
+    is("a number", fodderpause_load_number(seat, 2, 7).code, FODDERPAUSE_DONE);
     fodderpause_number was = fodderpause_set(seat, 1, 0, 2);
     is("the stamp before", was.number, 0);
     fodderpause_cell cell = fodderpause_get(seat, 3, 1, 0);
@@ -131,11 +160,11 @@ static void call(fodderpause_handle *seat)
     is("its own record", fodderpause_get(seat, 4, 1, 0).kind, FODDERPAUSE_OBJECT);
     is("the same", fodderpause_same(seat, 1, 4).number, 1);
     is("not the same", fodderpause_same(seat, 1, 2).number, 0);
-    is("the board", fodderpause_len(seat, 0).number, 32);
+    is("the board", fodderpause_length(seat, 0).number, 32);
     is("names", fodderpause_names_left(seat).number, 4294967294u);
     is("sets", fodderpause_sets_left(seat).sets, INT64_MAX - 2);
-    is("47 fields", fodderpause_new(seat, 5, 47).code, FODDERPAUSE_DONE);
-    made = fodderpause_new(seat, 6, 47);
+    is("47 fields", fodderpause_new_record(seat, 5, 47).code, FODDERPAUSE_DONE);
+    made = fodderpause_new_record(seat, 6, 47);
     is("47 fields more", made.code, FODDERPAUSE_FULL);
     is("sixteen needed", made.need, 16);
     is("four found", made.found, 4);
@@ -193,15 +222,15 @@ static void close_heap(void)
 /* A board of each size, whose last field is there and none behind it. */
 static void open_each_board(void)
 {
-    for (uint8_t fields = 1; fields <= 47; fields++) {
+    for (uint32_t fields = 1; fields <= 47; fields++) {
         is("open with a board", fodderpause_make(2, 0, fields, &collector, seats, 1), FODDERPAUSE_DONE);
-        is("the board's fields", fodderpause_len(&seats[0], 0).number, fields);
+        is("the board's fields", fodderpause_length(&seats[0], 0).number, fields);
         is("its last one", fodderpause_set(&seats[0], 0, fields - 1u, 1).code, FODDERPAUSE_DONE);
         is("one behind it", fodderpause_set(&seats[0], 0, fields, 1).code, FODDERPAUSE_NO_FIELD);
-        is("let go", fodderpause_drop(&collector), FODDERPAUSE_DONE);
+        is("let go", fodderpause_drop_collector(&collector), FODDERPAUSE_DONE);
         is("the seat goes on", fodderpause_nil(&seats[0], 1).code, FODDERPAUSE_DONE);
-        is("let go", fodderpause_drop(&seats[0]), FODDERPAUSE_DONE);
-        is("let go again", fodderpause_drop(&seats[0]), FODDERPAUSE_NO_PARTY);
+        is("let go", fodderpause_drop_seat(&seats[0]), FODDERPAUSE_DONE);
+        is("let go again", fodderpause_drop_seat(&seats[0]), FODDERPAUSE_NO_PARTY);
     }
     is("each is given back", blocks, 0);
 }
@@ -224,7 +253,7 @@ static void set_past_all_stamps(void)
     uint32_t stamps = 1u << 26;
     is("open for sets", fodderpause_make(1, 0, 2, &collector, seats, 2), FODDERPAUSE_DONE);
     is("sets in a seat's life", fodderpause_sets_left(&seats[0]).sets, INT64_MAX);
-    is("a number", fodderpause_num(&seats[0], 1, 7).code, FODDERPAUSE_DONE);
+    is("a number", fodderpause_load_number(&seats[0], 1, 7).code, FODDERPAUSE_DONE);
     is("set 1", fodderpause_set(&seats[0], 0, 0, 1).code, FODDERPAUSE_DONE);
     is("its stamp", fodderpause_get(&seats[0], 2, 0, 0).stamp, stamps + 1);
     set_often(1, 2, stamps - 2);
@@ -245,15 +274,16 @@ static void set_past_all_stamps(void)
     is("whose stamp is told", swap.stamp, 2 * stamps + 1);
     is("one set more", fodderpause_set(&seats[0], 0, 1, 1).number, 2 * stamps + 1);
     is("sets that are left", fodderpause_sets_left(&seats[0]).sets, INT64_MAX - (stamps + 3ull));
-    is("let go", fodderpause_drop(&collector), FODDERPAUSE_DONE);
-    is("let go", fodderpause_drop(&seats[0]), FODDERPAUSE_DONE);
-    is("let go", fodderpause_drop(&seats[1]), FODDERPAUSE_DONE);
+    is("let go", fodderpause_drop_collector(&collector), FODDERPAUSE_DONE);
+    is("let go", fodderpause_drop_seat(&seats[0]), FODDERPAUSE_DONE);
+    is("let go", fodderpause_drop_seat(&seats[1]), FODDERPAUSE_DONE);
 }
 
 int main(void)
 {
     open_refused();
     taken = 0;
+    call_with_too_large(&seats[0]);
     call_refused(&seats[0]);
     call(&seats[0]);
     end_cycles();

@@ -5,8 +5,8 @@
 /* Registers: the chain's first and last object, the one that is looked at, the one behind it, and none. */
 enum { FIRST = 1, LAST, LOOKED, BEHIND, NONE };
 
-static fodderpause_handle collector = FODDERPAUSE_NONE;
-static fodderpause_handle seat = FODDERPAUSE_NONE;
+static fodderpause_collector collector = FODDERPAUSE_NO_COLLECTOR;
+static fodderpause_seat seat = FODDERPAUSE_NO_SEAT;
 
 static void done(uint32_t code)
 {
@@ -21,14 +21,14 @@ static void open_space(void)
     done(fodderpause_make(4096, 0, 1, &collector, &seat, 1));
 }
 
-static bool is_nil(uint8_t object)
+static bool is_nil(uint32_t object)
 {
     return fodderpause_same(&seat, object, NONE).number == 1;
 }
 
 static bool append(unsigned cells)
 {
-    uint32_t code = fodderpause_new(&seat, LOOKED, (uint16_t) cells).code;
+    uint32_t code = fodderpause_new_record(&seat, LOOKED, cells).code;
     if (code == FODDERPAUSE_FULL) {
         return false;
     }

@@ -10,8 +10,8 @@
 /* The tree's nodes are in the registers of their heights, from 1 on. */
 enum { HELD = 1, OTHER, GOT, NUMBER, CLEAR, ARRAY, FIRST_SHELF = 8 };
 
-static fodderpause_handle collector = FODDERPAUSE_NONE;
-static fodderpause_handle seat = FODDERPAUSE_NONE;
+static fodderpause_collector collector = FODDERPAUSE_NO_COLLECTOR;
+static fodderpause_seat seat = FODDERPAUSE_NO_SEAT;
 
 /* How many turns are made behind each record, how often a call was refused, and how often a cycle ended. */
 static int turns;
@@ -26,7 +26,7 @@ static void done(uint32_t code)
     }
 }
 
-static void open_heap(uint16_t groups, uint16_t spine)
+static void open_heap(uint32_t groups, uint32_t spine)
 {
     done(fodderpause_make(groups, spine, 1, &collector, &seat, 1));
 }
@@ -42,16 +42,16 @@ static uint32_t turn(void)
 {
     fodderpause_turned turned = fodderpause_turn(&collector);
     if (turned.kind == FODDERPAUSE_WAITS) {
-        fodderpause_poll(&seat);
+        done(fodderpause_poll(&seat).code);
     }
     cycles += turned.kind == FODDERPAUSE_ENDED;
     return turned.kind;
 }
 
 /* Makes a record, and the collector's turns; where there was no room, to the end of two cycles. */
-static void record(uint8_t d)
+static void record(uint32_t d)
 {
-    while (fodderpause_new(&seat, d, 2).code != FODDERPAUSE_DONE) {
+    while (fodderpause_new_record(&seat, d, 2).code != FODDERPAUSE_DONE) {
         refused++;
         for (int ends = 0; ends < 2;) {
             ends += turn() == FODDERPAUSE_ENDED;
@@ -72,12 +72,12 @@ static void records(void)
 static void arrays(void)
 {
     for (unsigned i = 0; i < ARRAYS; i++) {
-        done(fodderpause_array(&seat, ARRAY, CELLS).code);
+        done(fodderpause_new_array(&seat, ARRAY, CELLS).code);
         for (unsigned cell = 0; cell < CELLS; cell++) {
-            fodderpause_set(&seat, ARRAY, cell, HELD);
+            done(fodderpause_set(&seat, ARRAY, cell, HELD).code);
         }
         for (unsigned cell = 0; cell < CELLS; cell++) {
-            fodderpause_get(&seat, GOT, ARRAY, cell);
+            done(fodderpause_get(&seat, GOT, ARRAY, cell).code);
         }
         for (int k = 0; k < 60; k++) {
             turn();
@@ -86,13 +86,13 @@ static void arrays(void)
 }
 
 /* Makes a tree of this height in the register of its height. */
-static void tree(uint8_t height)
+static void tree(uint32_t height)
 {
-    record((uint8_t) (height + 1));
+    record(height + 1);
     if (height > 0) {
         for (unsigned side = 0; side < 2; side++) {
-            tree((uint8_t) (height - 1));
-            done(fodderpause_set(&seat, (uint8_t) (height + 1), side, height).code);
+            tree(height - 1);
+            done(fodderpause_set(&seat, height + 1, side, height).code);
         }
     }
 }
@@ -108,10 +108,10 @@ static void trees(void)
 static void fill_shelves(void)
 {
     for (unsigned shelf = 0; shelf < SHELVES; shelf++) {
-        done(fodderpause_array(&seat, (uint8_t) (FIRST_SHELF + shelf), SHELF).code);
+        done(fodderpause_new_array(&seat, FIRST_SHELF + shelf, SHELF).code);
         for (unsigned cell = 0; cell < SHELF; cell++) {
             record(HELD);
-            done(fodderpause_set(&seat, (uint8_t) (FIRST_SHELF + shelf), cell, HELD).code);
+            done(fodderpause_set(&seat, FIRST_SHELF + shelf, cell, HELD).code);
         }
     }
 }
@@ -122,7 +122,7 @@ static void replace_some(void)
     for (unsigned i = 0; i < REPLACED; i++) {
         uint32_t number = drawn(&state) % (SHELVES * SHELF);
         record(HELD);
-        done(fodderpause_set(&seat, (uint8_t) (FIRST_SHELF + number / SHELF), number % SHELF, HELD).code);
+        done(fodderpause_set(&seat, FIRST_SHELF + number / SHELF, number % SHELF, HELD).code);
     }
 }
 
@@ -132,7 +132,7 @@ static void single(void)
     static struct spread calls, steps;
     for (unsigned i = 0; i < SINGLE; i++) {
         uint64_t start = now();
-        fodderpause_made made = fodderpause_new(&seat, HELD, 2);
+        fodderpause_made made = fodderpause_new_record(&seat, HELD, 2);
         add_time(&calls, now() - start);
         refused += made.code != FODDERPAUSE_DONE;
         for (int k = 0; k < 2; k++) {

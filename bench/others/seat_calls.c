@@ -4,8 +4,8 @@
 #include "timing.h"
 #include "work.h"
 
-static fodderpause_handle collector = FODDERPAUSE_NONE;
-static fodderpause_handle seat = FODDERPAUSE_NONE;
+static fodderpause_collector collector = FODDERPAUSE_NO_COLLECTOR;
+static fodderpause_seat seat = FODDERPAUSE_NO_SEAT;
 
 /* The sum of what the calls answer, so that their answers are used. */
 static uint64_t sum;
@@ -13,7 +13,7 @@ static uint64_t sum;
 static void news(void)
 {
     for (unsigned i = 0; i < FIELDS; i++) {
-        sum += fodderpause_new(&seat, 2, 2).code;
+        sum += fodderpause_new_record(&seat, 2, 2).code;
     }
 }
 
@@ -57,7 +57,7 @@ static void pairs(void)
 static void numbers(void)
 {
     for (unsigned i = 0; i < FIELDS; i++) {
-        fodderpause_num(&seat, 2, 7);
+        sum += fodderpause_load_number(&seat, 2, 7).code;
     }
 }
 
@@ -65,18 +65,17 @@ static void told_calls(const char *name, void (*calls)(void))
 {
     uint64_t least = UINT64_MAX;
     for (int i = 0; i < 20; i++) {
-        if (fodderpause_make(1024, 16384, 32, &collector, &seat, 1) != FODDERPAUSE_DONE) {
+        if (fodderpause_make(1024, 16384, 32, &collector, &seat, 1) != FODDERPAUSE_DONE || fodderpause_new_record(&seat, 1, 2).code != FODDERPAUSE_DONE) {
             return;
         }
-        fodderpause_new(&seat, 1, 2);
         uint64_t start = now();
         calls();
         uint64_t time = now() - start;
         if (time < least) {
             least = time;
         }
-        fodderpause_drop(&seat);
-        fodderpause_drop(&collector);
+        fodderpause_drop_seat(&seat);
+        fodderpause_drop_collector(&collector);
     }
     printf("%s %u %llu %llu\n", name, (unsigned) FIELDS, (unsigned long long) least, (unsigned long long) sum);
 }

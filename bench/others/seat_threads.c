@@ -9,8 +9,8 @@
 #include <stdatomic.h>
 #include <stdlib.h>
 
-static fodderpause_handle collector;
-static fodderpause_handle seats[MOST_THREADS];
+static fodderpause_collector collector;
+static fodderpause_seat seats[MOST_THREADS];
 static atomic_int through;
 static atomic_ulong refused;
 
@@ -24,17 +24,17 @@ static void done(uint32_t code)
 
 static void *work(void *handle)
 {
-    fodderpause_handle *seat = handle;
-    done(fodderpause_new(seat, 1, 2).code);
+    fodderpause_seat *seat = handle;
+    done(fodderpause_new_record(seat, 1, 2).code);
     for (unsigned i = 0; i < RECORDS; i++) {
-        while (fodderpause_new(seat, 2, 2).code != FODDERPAUSE_DONE) {
+        while (fodderpause_new_record(seat, 2, 2).code != FODDERPAUSE_DONE) {
             atomic_fetch_add(&refused, 1);
-            fodderpause_poll(seat);
+            done(fodderpause_poll(seat).code);
             sched_yield();
         }
-        fodderpause_set(seat, 1, 0, 2);
-        fodderpause_get(seat, 3, 1, 0);
-        fodderpause_poll(seat);
+        done(fodderpause_set(seat, 1, 0, 2).code);
+        done(fodderpause_get(seat, 3, 1, 0).code);
+        done(fodderpause_poll(seat).code);
     }
     done(fodderpause_leave(seat).code);
     atomic_fetch_add(&through, 1);
@@ -43,11 +43,10 @@ static void *work(void *handle)
 
 static uint64_t timed(int threads)
 {
-    static const fodderpause_handle none = FODDERPAUSE_NONE;
     pthread_t started[MOST_THREADS];
-    collector = none;
+    collector = fodderpause_no_collector();
     for (int k = 0; k < threads; k++) {
-        seats[k] = none;
+        seats[k] = fodderpause_no_seat();
     }
     atomic_store(&through, 0);
     done(fodderpause_make(4096, 0, 1, &collector, seats, (size_t) threads));
@@ -59,7 +58,7 @@ static uint64_t timed(int threads)
     }
     while (atomic_load(&through) < threads) {
         for (int k = 0; k < 64; k++) {
-            fodderpause_turn(&collector);
+            done(fodderpause_turn(&collector).code);
         }
     }
     for (int k = 0; k < threads; k++) {

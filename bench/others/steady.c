@@ -6,8 +6,8 @@
 #include <stdlib.h>
 #include <sys/resource.h>
 
-static fodderpause_handle collector = FODDERPAUSE_NONE;
-static fodderpause_handle seat = FODDERPAUSE_NONE;
+static fodderpause_collector collector = FODDERPAUSE_NO_COLLECTOR;
+static fodderpause_seat seat = FODDERPAUSE_NO_SEAT;
 static uint64_t refused;
 static uint64_t cycles;
 
@@ -15,7 +15,7 @@ static void turn(void)
 {
     fodderpause_turned turned = fodderpause_turn(&collector);
     if (turned.kind == FODDERPAUSE_WAITS) {
-        fodderpause_poll(&seat);
+        refused += fodderpause_poll(&seat).code != FODDERPAUSE_DONE;
     }
     cycles += turned.kind == FODDERPAUSE_ENDED;
 }
@@ -23,7 +23,7 @@ static void turn(void)
 /* A record, a set that keeps it and drops the one before, a get of it, and a copy. */
 static void four_calls(void)
 {
-    refused += fodderpause_new(&seat, 1, 2).code != FODDERPAUSE_DONE;
+    refused += fodderpause_new_record(&seat, 1, 2).code != FODDERPAUSE_DONE;
     refused += fodderpause_set(&seat, 4, 0, 1).code != FODDERPAUSE_DONE;
     refused += fodderpause_get(&seat, 2, 4, 0).code != FODDERPAUSE_DONE;
     refused += fodderpause_copy(&seat, 3, 2).code != FODDERPAUSE_DONE;
@@ -34,7 +34,7 @@ static void four_calls(void)
 int main(int count, char **words)
 {
     uint64_t calls = count == 2 ? strtoull(words[1], NULL, 10) : 0;
-    if (fodderpause_make(64, 0, 1, &collector, &seat, 1) != FODDERPAUSE_DONE || fodderpause_new(&seat, 4, 2).code != FODDERPAUSE_DONE) {
+    if (fodderpause_make(64, 0, 1, &collector, &seat, 1) != FODDERPAUSE_DONE || fodderpause_new_record(&seat, 4, 2).code != FODDERPAUSE_DONE) {
         return 1;
     }
     uint64_t start = now();

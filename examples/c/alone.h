@@ -4,49 +4,18 @@
 
 #include "registers.h"
 
-static fodderpause_handle collector = FODDERPAUSE_NONE;
-static fodderpause_handle seat = FODDERPAUSE_NONE;
+static fodderpause_collector collector = FODDERPAUSE_NO_COLLECTOR;
+static fodderpause_seat seat = FODDERPAUSE_NO_SEAT;
 
-/* Makes turns to the end of a cycle, and answers each phase. */
-static inline void end_cycle(void)
+/* Where there is too little space, two cycles are ended first; where that is too little still, the program ends. */
+static inline void new_record(uint32_t d, uint32_t fields)
 {
-    for (;;) {
-        fodderpause_turned turned = fodderpause_turn(&collector);
-        done(turned.code);
-        if (turned.kind == FODDERPAUSE_ENDED) {
-            return;
-        }
-        if (turned.kind == FODDERPAUSE_WAITS) {
-            done(fodderpause_poll(&seat).code);
-        }
-    }
+    done(fodderpause_new_record_with_turns(&collector, &seat, 1, 0, d, fields).code);
 }
 
-/* Ends the cycle that is on, and a whole one behind it: what was garbage before is free then. */
-static inline void collect(void)
+static inline void new_array(uint32_t d, uint32_t cells)
 {
-    end_cycle();
-    end_cycle();
-}
-
-static inline void new_record(uint8_t d, uint16_t fields)
-{
-    fodderpause_made made = fodderpause_new(&seat, d, fields);
-    if (made.code == FODDERPAUSE_FULL) {
-        collect();
-        made = fodderpause_new(&seat, d, fields);
-    }
-    done(made.code);
-}
-
-static inline void new_array(uint8_t d, uint16_t cells)
-{
-    fodderpause_made made = fodderpause_array(&seat, d, cells);
-    if (made.code == FODDERPAUSE_FULL || made.code == FODDERPAUSE_SPINE_FULL) {
-        collect();
-        made = fodderpause_array(&seat, d, cells);
-    }
-    done(made.code);
+    done(fodderpause_new_array_with_turns(&collector, &seat, 1, 0, d, cells).code);
 }
 
 /* The seat leaves and is folded in, and the heap is closed. */

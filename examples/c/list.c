@@ -26,7 +26,7 @@ static uint32_t sum(void)
 {
     uint32_t total = 0;
     copy(&seat, NODE, LIST);
-    while (fodderpause_len(&seat, NODE).code == FODDERPAUSE_DONE) {
+    while (fodderpause_length(&seat, NODE).code == FODDERPAUSE_DONE) {
         total += get(&seat, VALUE, NODE, ITS_VALUE).number;
         get(&seat, NODE, NODE, ITS_NEXT);
     }
@@ -34,11 +34,11 @@ static uint32_t sum(void)
 }
 
 /* Makes an array of the string: its length in bytes, and behind that three bytes a cell. */
-static void make_string(uint8_t d, const char *text)
+static void make_string(uint32_t d, const char *text)
 {
     size_t length = strlen(text);
-    uint16_t cells = (uint16_t) ((length + 2) / 3);
-    new_array(d, (uint16_t) (cells + 1));
+    uint32_t cells = (uint32_t) ((length + 2) / 3);
+    new_array(d, cells + 1);
     num(&seat, VALUE, (uint32_t) length);
     set(&seat, d, 0, VALUE);
     for (size_t at = 0; at < length; at += 3) {
@@ -52,7 +52,7 @@ static void make_string(uint8_t d, const char *text)
 }
 
 /* Writes the string. */
-static void print_string(uint8_t r)
+static void print_string(uint32_t r)
 {
     uint32_t length = get(&seat, VALUE, r, 0).number;
     for (uint32_t at = 0; at < length; at++) {
@@ -92,7 +92,7 @@ int main(void)
     printf("the last list's sum: %u\n", (unsigned) sum());
 
     get(&seat, TABLE, BOARD, 0);
-    uint32_t words = fodderpause_len(&seat, TABLE).number;
+    uint32_t words = fodderpause_length(&seat, TABLE).number;
     for (uint32_t k = 0; k < words; k++) {
         get(&seat, STRING, TABLE, k);
         print_string(STRING);

@@ -1,9 +1,12 @@
 /* Four threads share a queue through the board: two put numbers into it and two take them out, beside a thread that makes the collector's turns. */
 #define _POSIX_C_SOURCE 200809L
+#include <sched.h>
+
+/* A thread that waits for the collector lets others go on between two polls. */
+#define FODDERPAUSE_REST() sched_yield()
 #include "registers.h"
 
 #include <pthread.h>
-#include <sched.h>
 #include <stdatomic.h>
 
 enum { EACH = 10000, THREADS = 4 };
@@ -16,8 +19,8 @@ enum { FIRST, LAST };
 /* A node's fields. */
 enum { ITS_VALUE, ITS_NEXT };
 
-static fodderpause_handle collector = FODDERPAUSE_NONE;
-static fodderpause_handle seats[THREADS] = {FODDERPAUSE_NONE, FODDERPAUSE_NONE, FODDERPAUSE_NONE, FODDERPAUSE_NONE};
+static fodderpause_collector collector = FODDERPAUSE_NO_COLLECTOR;
+static fodderpause_seat seats[THREADS] = {FODDERPAUSE_NO_SEAT, FODDERPAUSE_NO_SEAT, FODDERPAUSE_NO_SEAT, FODDERPAUSE_NO_SEAT};
 
 /* How many numbers were taken out, and how many threads are through. */
 static atomic_int taken;
@@ -26,27 +29,20 @@ static atomic_int through;
 static _Atomic uint64_t sum;
 
 /* A thread that has nothing to do answers the phase, so that it holds nobody up. */
-static void rest(fodderpause_handle *seat)
+static void rest(fodderpause_seat *seat)
 {
     done(fodderpause_poll(seat).code);
     sched_yield();
 }
 
 /* Makes a record; where fragments are too few, it waits for the collector. */
-static void new_record(fodderpause_handle *seat, uint8_t d, uint16_t fields)
+static void new_record(fodderpause_seat *seat, uint32_t d, uint32_t fields)
 {
-    for (;;) {
-        fodderpause_made made = fodderpause_new(seat, d, fields);
-        if (made.code != FODDERPAUSE_FULL) {
-            done(made.code);
-            return;
-        }
-        rest(seat);
-    }
+    done(fodderpause_new_record_or_collect(seat, d, fields).code);
 }
 
 /* Whether field i of register r's object was as register a was read, and so has what register v holds. */
-static bool swapped(fodderpause_handle *seat, uint8_t r, uint32_t i, uint8_t a, uint8_t v)
+static bool swapped(fodderpause_seat *seat, uint32_t r, uint32_t i, uint32_t a, uint32_t v)
 {
     fodderpause_swap swap = fodderpause_cas(seat, r, i, a, v);
     done(swap.code);
@@ -54,7 +50,7 @@ static bool swapped(fodderpause_handle *seat, uint8_t r, uint32_t i, uint8_t a, 
 }
 
 /* What a register holds stays, and with it every node that was put behind it since. */
-static void forget(fodderpause_handle *seat)
+static void forget(fodderpause_seat *seat)
 {
     nil(seat, HEAD);
     nil(seat, TAIL);
@@ -63,7 +59,7 @@ static void forget(fodderpause_handle *seat)
 }
 
 /* Puts a number behind the queue's last one. */
-static void put(fodderpause_handle *seat, uint32_t n)
+static void put(fodderpause_seat *seat, uint32_t n)
 {
     new_record(seat, NODE, 2);
     num(seat, VALUE, n);
@@ -84,7 +80,7 @@ static void put(fodderpause_handle *seat, uint32_t n)
 }
 
 /* Takes the queue's first number, where it has one. */
-static bool take(fodderpause_handle *seat, uint32_t *n)
+static bool take(fodderpause_seat *seat, uint32_t *n)
 {
     for (;;) {
         get(seat, HEAD, BOARD, FIRST);
@@ -106,7 +102,7 @@ static bool take(fodderpause_handle *seat, uint32_t *n)
     }
 }
 
-static void leave(fodderpause_handle *seat)
+static void leave(fodderpause_seat *seat)
 {
     done(fodderpause_leave(seat).code);
     atomic_fetch_add(&through, 1);
@@ -152,7 +148,7 @@ static void *turn_all(void *unused)
 }
 
 /* The queue has one node at first, whose number counts for nothing. */
-static void open_queue(fodderpause_handle *seat)
+static void open_queue(fodderpause_seat *seat)
 {
     new_record(seat, NODE, 2);
     set(seat, BOARD, FIRST, NODE);

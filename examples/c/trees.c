@@ -10,7 +10,7 @@ enum { LEFT, RIGHT };
 enum { ITS_ROOT, BELOW };
 
 /* Puts what register r holds on the stack of roots, so that the collector knows of it while the register has something else. */
-static void push(uint8_t r)
+static void push(uint32_t r)
 {
     new_record(PUSHED, 2);
     set(&seat, PUSHED, ITS_ROOT, r);
@@ -20,7 +20,7 @@ static void push(uint8_t r)
 }
 
 /* Takes from the stack what was put there last. */
-static void pop(uint8_t d)
+static void pop(uint32_t d)
 {
     get(&seat, d, STACK, ITS_ROOT);
     get(&seat, STACK, STACK, BELOW);
@@ -46,7 +46,7 @@ static void make_tree(int depth)
 /* How many records the tree has. */
 static unsigned count(void)
 {
-    if (fodderpause_len(&seat, TREE).code != FODDERPAUSE_DONE) {
+    if (fodderpause_length(&seat, TREE).code != FODDERPAUSE_DONE) {
         return 0;
     }
     unsigned records = 1;

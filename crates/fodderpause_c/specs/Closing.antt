@@ -1,4 +1,4 @@
--- A party is let go, or a heap is closed, as C has it.
+-- A heap is closed, as C has it.
 use Rattle.std.specs.Prelude.{◌≡◌, ℕ, ◌≤◌, Option, Some, None, Result, Ok, Err}
 use Rattle.core_machine.specs.table.Layout.{table_length}
 use Rattle.heap_table.specs.Folded.{AllFolded}
@@ -7,12 +7,6 @@ use Rattle.fodderpause_c.specs.declared.party.Party.{Party}
 use Rattle.fodderpause_c.specs.declared.party.Party.TheVariants.{OfSeat, OfCollector}
 use Rattle.fodderpause_c.specs.declared.refusal.Refusal.{Refusal}
 use Rattle.fodderpause_c.specs.declared.refusal.Refusal.TheVariants.{NoMemory, NoParty, NotFolded}
-
--- what is behind the handle goes, where there is anything
-abbrev pub Drops : Option Party → Option Party → Result (Unit {0}) Refusal → Type 0
-Drops (Some old) new (Ok done) = new ≡ None
-Drops None new (Err NoParty) = new ≡ None
-Drops _ _ _ = ⊥
 
 -- it is a collector that has taken in every seat
 abbrev pub IsOver : Party → Type 0
@@ -42,10 +36,6 @@ Closes None new _ = ⊥
 -- and C is told which
 abbrev pub IsToldOf : (Option Party → Option Party → Result (Unit {0}) Refusal → Type 0) → Option Party → Option Party → ℕ → Type 0
 IsToldOf Happens old new code = (answer : Result (Unit {0}) Refusal) × Happens old new answer × (code ≡ answer_code answer)
-
--- C is told whether anything went
-abbrev pub DropsAll : Option Party → Option Party → ℕ → Type 0
-DropsAll = IsToldOf Drops
 
 -- C is told whether the heap was closed
 abbrev pub ClosesAll : Option Party → Option Party → ℕ → Type 0

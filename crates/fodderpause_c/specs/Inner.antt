@@ -1,8 +1,9 @@
 -- The inner calls of a collect, and how much is left to a seat.
-use Rattle.std.specs.Prelude.{◌≡◌, ℕ, ◌+◌, ◌-◌, ◌<◌, ◌⊎◌, true, false, length, Option, Result, Ok, Err}
+use Rattle.std.specs.Prelude.{◌≡◌, ℕ, ◌+◌, ◌-◌, ◌^◌, ◌<◌, ◌≤◌, ◌⊎◌, true, false, length, Option, Result, Ok, Err}
 use Rattle.heap_model.specs.Limits.{name_limit, set_limit}
 use Rattle.heap_model.specs.calls.SeatState.{own_graph_seat}
 use Rattle.heap_model.specs.declared.calls.collect.CollectReply.{CollectReply}
+use Rattle.heap_model.specs.declared.calls.collect.CollectReply.TheVariants.{Waits}
 use Rattle.heap_model.specs.declared.calls.collect.Inner.{Inner}
 use Rattle.heap_model.specs.declared.calls.collect.Inner.TheVariants as inners
 use Rattle.core_machine.specs.declared.step.Step.TheVariants.{PollLoad}
@@ -33,10 +34,16 @@ IsUnready held causes.HasLeft = (own_graph_seat (seat_state held)).left ≡ true
 IsUnready held causes.EntriesSpent = ((own_graph_seat (seat_state held)).left ≡ false) × (held.spare < 4)
 IsUnready held _ = ⊥
 
+-- the inner call names a seat by a number of more than eight bits, which no seat has
+abbrev pub NamesNoSeat : Inner → Type 0
+NamesNoSeat (inners.Behind other) = 2 ^ 8 ≤ other
+NamesNoSeat (inners.Note (Waits other answered phase)) = 2 ^ 8 ≤ other
+NamesNoSeat _ = ⊥
+
 -- the inner call may not be begun, though the seat is ready
 pub record IsBarred (held : SeatHeld) (inner : Inner) (refusal : Refusal) : Type 0 where
   pub ready : MayCollect (seat_state held)
-  pub barred : ¬ MayBeginInner held.heap held.number held.seat inner
+  pub barred : (¬ MayBeginInner held.heap held.number held.seat inner) ⊎ NamesNoSeat inner
   pub cause : refusal ≡ cause_of inner
 
 -- the seat may not make the inner call for this cause, the first that stands

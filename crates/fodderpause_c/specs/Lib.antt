@@ -1,6 +1,8 @@
+pub mod Asked
 pub mod Calls
 pub mod Closing
 pub mod Codes
+pub mod Dropping
 pub mod Folding
 pub mod Inner
 pub mod Opening

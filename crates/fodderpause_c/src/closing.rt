@@ -1,21 +1,11 @@
 ghost use Rattle.std.specs.Prelude.{◌≡◌, [], None, MatchResult, vec_capacity};
-ghost use Rattle.fodderpause_c.specs.Closing.{IsOver, HasRoom, RefusesClose, Drops, DropsAll, Closes, ClosesAll};
+ghost use Rattle.fodderpause_c.specs.Closing.{IsOver, HasRoom, RefusesClose, Closes, ClosesAll};
 
 use crate::codes::answer_code;
 use crate::handle::Handle;
 use crate::party::Party;
 use crate::refusal::Refusal;
 use std::alloc::Global;
-
-/// Lets go what is behind the handle.
-fn let_go(alloc: Global, party: &mut Handle) -> Result<(), Refusal>
-    ensures { Drops party.old.pointer.party party.new.pointer.party result }
-{
-    match party.take(alloc) {
-        Some(_) => Ok(()),
-        None => Err(Refusal::NoParty),
-    }
-}
 
 /// Room for the words of the table, where it is a collector that has taken in every seat.
 fn room_for_words(alloc: Global, party: &Party) -> Result<Vec<u64>, Refusal>
@@ -62,14 +52,6 @@ fn close(alloc: Global, collector: &mut Handle) -> Result<(), Refusal>
             Err(refusal)
         }
     }
-}
-
-/// Lets go a seat or a collector. What a seat kept stays taken, and a heap of which a seat was let go can't be closed.
-#[unsafe(no_mangle)]
-pub extern "C" fn fodderpause_drop(alloc: Global, party: &mut Handle) -> u32
-    ensures { DropsAll party.old.pointer.party party.new.pointer.party result }
-{
-    answer_code(let_go(alloc, party))
 }
 
 /// Closes the heap of a collector that has taken in every seat: its words are read a last time, and its memory is given back.

@@ -8,7 +8,9 @@ ghost use Rattle.fodderpause_c.specs.Replies.{left_shown, sets_shown};
 
 use crate::codes::answer_code;
 use crate::handle::Handle;
-use crate::inner_work::{AnswerWork, BehindWork, LookWork, NamesWork, NoteWork, SetsWork};
+use crate::inner_work::{
+    AnswerWork, BehindWork, LookWork, NamesWork, NoteWork, SetsWork, WaitsWork,
+};
 use crate::phases::{Behind, Phase};
 use crate::replies::{Number, SetsLeft};
 use crate::seat_work::on_seat;
@@ -33,7 +35,7 @@ pub extern "C" fn fodderpause_answer(alloc: Global, seat: &mut Handle) -> Phase
 
 /// Looks whether another seat has yet to answer the phase.
 #[unsafe(no_mangle)]
-pub extern "C" fn fodderpause_behind(alloc: Global, seat: &mut Handle, other: u8) -> Behind
+pub extern "C" fn fodderpause_behind(alloc: Global, seat: &mut Handle, other: u32) -> Behind
     ensures { ShowsSeat (LooksBehind other) behind_shown seat.old.pointer.party seat.new.pointer.party result }
 {
     Behind::of(on_seat(alloc, seat, &BehindWork { seat: other }))
@@ -53,18 +55,18 @@ pub extern "C" fn fodderpause_note_cycle(alloc: Global, seat: &mut Handle, cycle
 pub extern "C" fn fodderpause_note_waits(
     alloc: Global,
     seat: &mut Handle,
-    other: u8,
+    other: u32,
     answered: u64,
     phase: u64,
 ) -> u32
     ensures { ShowsSeat (Notes (Waits other answered phase)) answer_code seat.old.pointer.party seat.new.pointer.party result }
 {
-    let reply = CollectReply::Waits {
+    let work = WaitsWork {
         seat: other,
         answered,
         phase,
     };
-    answer_code(on_seat(alloc, seat, &NoteWork { reply }))
+    answer_code(on_seat(alloc, seat, &work))
 }
 
 /// How many more objects the seat can make.

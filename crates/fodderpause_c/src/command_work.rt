@@ -3,15 +3,16 @@ ghost use Rattle.heap_model.specs.calls.SeatCalls.{IsReady, HasNumber};
 ghost use Rattle.mutator_seat.specs.Resting.{seat_state};
 ghost use Rattle.fodderpause_c.specs.Calls.{IsGiven, Refuses, LacksNumber, MayCall};
 
+use crate::asked::Asked;
 use crate::party::HeapSeat;
 use crate::refusal::Refusal;
 use crate::seat_work::SeatWork;
 use heap_model::{Command, Reply, SeatCalls};
 
-/// The whole call of a command.
+/// The whole call that is asked for.
 #[derive(Drop)]
 pub struct CommandWork {
-    pub command: Command,
+    pub asked: Asked,
 }
 
 /// Whether a name or a set is left where the command uses one up.
@@ -61,14 +62,18 @@ fn allowed(seat: &HeapSeat, command: &Command) -> Result<(), Refusal>
 }
 
 impl SeatWork for CommandWork {
+    ghost use Rattle.fodderpause_c.specs.Asked.{asked_command};
     ghost use Rattle.fodderpause_c.specs.Calls.{Calls};
 
     type Answer = Reply;
 
-    ghost comes_to = { λ work old new answer. Calls work.command old new answer };
+    ghost comes_to = { λ work. Calls (asked_command work.asked) };
 
     fn work(&self, seat: &mut HeapSeat) -> Result<Reply, Refusal> {
-        allowed(seat, &self.command)?;
-        Ok(seat.call(&self.command))
+        let Some(command) = self.asked.command() else {
+            return Err(Refusal::OutOfRange);
+        };
+        allowed(seat, &command)?;
+        Ok(seat.call(&command))
     }
 }

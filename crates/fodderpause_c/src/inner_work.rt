@@ -19,13 +19,21 @@ pub struct AnswerWork;
 /// A look whether this seat is behind.
 #[derive(Drop)]
 pub struct BehindWork {
-    pub seat: u8,
+    pub seat: u32,
 }
 
 /// A note of what a collect came to.
 #[derive(Drop)]
 pub struct NoteWork {
     pub reply: CollectReply,
+}
+
+/// A note that a collect waits for this seat.
+#[derive(Drop)]
+pub struct WaitsWork {
+    pub seat: u32,
+    pub answered: u64,
+    pub phase: u64,
 }
 
 /// How many more objects the seat can make.
@@ -104,8 +112,12 @@ impl SeatWork for BehindWork {
     ghost comes_to = { λ work. LooksBehind work.seat };
 
     fn work(&self, seat: &mut HeapSeat) -> Result<Option<(u64, u64)>, Refusal> {
-        allowed(seat, &Inner::Behind { seat: self.seat })?;
-        Ok(seat.behind(self.seat))
+        let Ok(other) = u8::try_from(self.seat) else {
+            ready(seat)?;
+            return Err(Refusal::OutOfRange);
+        };
+        allowed(seat, &Inner::Behind { seat: other })?;
+        Ok(seat.behind(other))
     }
 }
 
@@ -119,6 +131,30 @@ impl SeatWork for NoteWork {
     fn work(&self, seat: &mut HeapSeat) -> Result<(), Refusal> {
         allowed(seat, &Inner::Note(self.reply))?;
         seat.note(self.reply);
+        Ok(())
+    }
+}
+
+impl SeatWork for WaitsWork {
+    ghost use Rattle.heap_model.specs.declared.calls.collect.CollectReply.TheVariants.{Waits};
+    ghost use Rattle.fodderpause_c.specs.Inner.{Notes};
+
+    type Answer = ();
+
+    ghost comes_to = { λ work. Notes (Waits work.seat work.answered work.phase) };
+
+    fn work(&self, seat: &mut HeapSeat) -> Result<(), Refusal> {
+        let Ok(other) = u8::try_from(self.seat) else {
+            ready(seat)?;
+            return Err(Refusal::NotFound);
+        };
+        let reply = CollectReply::Waits {
+            seat: other,
+            answered: self.answered,
+            phase: self.phase,
+        };
+        allowed(seat, &Inner::Note(reply))?;
+        seat.note(reply);
         Ok(())
     }
 }

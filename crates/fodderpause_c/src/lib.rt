@@ -1,12 +1,14 @@
 //! The heap for C: its parties behind handles, and an exported function for each of their calls.
 #![tactic(auto)]
 
+mod asked;
 mod calls;
 mod closing;
 mod codes;
 mod collecting;
 mod collector_work;
 mod command_work;
+mod dropping;
 mod folding;
 mod handle;
 mod inner_work;
@@ -18,3 +20,4 @@ mod refusal;
 mod replies;
 mod seat_work;
 mod turning;
+mod version;

@@ -98,10 +98,13 @@ fn open(
 }
 
 /// The heap of these sizes, with a seat for each handle.
-fn heap_of(groups: u16, spine: u16, handles: usize, board: u8) -> Result<Heap, Refusal>
+fn heap_of(groups: u32, spine: u32, handles: usize, board: u32) -> Result<Heap, Refusal>
     ensures { MatchResult result (IsHeapOf groups spine handles board) (λ refusal. (refusal ≡ OutOfRange) × (¬ IsHeap (heap_with groups spine handles board))) }
 {
-    let Ok(seats) = u8::try_from(handles) else {
+    let (Ok(groups), Ok(spine)) = (u16::try_from(groups), u16::try_from(spine)) else {
+        return Err(Refusal::OutOfRange);
+    };
+    let (Ok(seats), Ok(board)) = (u8::try_from(handles), u8::try_from(board)) else {
         return Err(Refusal::OutOfRange);
     };
     match Heap::make(groups, spine, seats, board) {
@@ -114,9 +117,9 @@ fn heap_of(groups: u16, spine: u16, handles: usize, board: u8) -> Result<Heap, R
 #[unsafe(no_mangle)]
 pub extern "C" fn fodderpause_make(
     alloc: Global,
-    groups: u16,
-    spine: u16,
-    board: u8,
+    groups: u32,
+    spine: u32,
+    board: u32,
     collector: &mut Handle,
     seats: &mut [Handle],
 ) -> u32
