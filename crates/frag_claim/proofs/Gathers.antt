@@ -76,8 +76,9 @@ module _ (made : List Made) (old new : SeatHeld) (reserve : List ℕ) (cursor ne
       differ : false ≡ true → ⊥
       differ e = cc
 
-  same_command : new.seat.command ≡ old.seat.command
-  same_command = ends_so.1.same ∙ sym (going_on_keeps_command old.heap before) ∙ ap (λ (s : Seat). s.command) (sym begins.goes_on)
+  -- its command stays
+  pub gather_keeps_command : new.seat.command ≡ old.seat.command
+  gather_keeps_command = ends_so.1.same ∙ sym (going_on_keeps_command old.heap before) ∙ ap (λ (s : Seat). s.command) (sym begins.goes_on)
 
   need_is : need_of new.seat.command ≡ need_
   need_is = ap need_of ends_so.1.same ∙ begins.need_is
@@ -106,8 +107,8 @@ module _ (made : List Made) (old new : SeatHeld) (reserve : List ℕ) (cursor ne
 
   pub gathered_has_its_fragments : EndsClaiming new → has_its_fragments new.seat.point ≡ true → (hand : List ℕ) → hand ≡ new.seat.body → HasItsFragments old new hand
   gathered_has_its_fragments ends e hand is = record {
-    same = same_command;
-    point_is = ends.settled e ∙ ap (λ (command : Command). points.Making (settled_point command)) same_command;
+    same = gather_keeps_command;
+    point_is = ends.settled e ∙ ap (λ (command : Command). points.Making (settled_point command)) gather_keeps_command;
     body_is = sym is;
     none_stored = ends.none_stored;
   }

@@ -97,11 +97,13 @@ pub fn gather<L: Entries>(
     requires empty { hand.old.fragments.items ≡ [] }
     requires room { 2 * need + 4 ≤ holder.old.spare }
     ensures steps { (made : List Made) × MakesSteps holder.old holder.new made }
+    ensures command { holder.new.seat.command ≡ holder.old.seat.command }
     ensures hand { OnOk result (length hand.new.fragments.items ≡ need) }
     ensures object { OnOk result (HasItsFragments holder.old holder.new hand.new.fragments.items) }
     ensures gathered { OnOk result (BySteps holder.old holder.new (λ made. HasGathered made holder.old.heap.groups reserve.old.cursor need reserve.old.fragments.items reserve.new.fragments.items hand.new.fragments.items)) }
     ensures kept { (reserve.new.fragments.items ≡ holder.new.seat.reserve) × (reserve.new.cursor ≡ holder.new.seat.cursor) }
     ensures full { IfErr result (λ full. (full.need ≡ need) × (full.found < need)) }
+    ensures found { IfErr result (λ full. full.found ≡ length reserve.old.fragments.items + holder.new.seat.given) }
     ensures exhausted { IfErr result (λ full. BySteps holder.old holder.new (λ made. IsExhausted made holder.old.heap.groups reserve.old.fragments.items full.found)) }
     ensures given { OnErr result ((hand.new.fragments.items ≡ []) × (reserve.new.fragments.items ≡ reserve.old.fragments.items) × (reserve.new.cursor ≡ reserve.old.cursor)) }
     ensures refusing { OnErr result (holder.new.seat.point ≡ Makes Refusing) }

@@ -72,6 +72,7 @@ module _ (old : SeatHeld) (command : Command) (rests : Rests old) (may : MayBegi
       comes = comes_before old.number (kept_of old.seat) command answered.reply answered.first answered.comes near;
       stands = answered.stands;
       room = omega (arith, makes.room_stays, ap (length {A = Entry}) stands.kept);
+      no_more = makes.no_more;
       cause = reply_has_its_cause old new command made answered.first sound answered.reply answered.stands;
       refused = keeps_whole_where_refused old new command made answered.first answered.reply answered.stands;
       waits_stay = (call_counts_so tells old.heap old.number (kept_of old.seat) (kept_of new.seat) answered.first command answered.reply answered.stands).waits;

@@ -73,6 +73,7 @@ module _ (old new : SeatHeld) (command : Command) (reply : Reply) (call : MakesC
     comes = subst (λ (n : ℕ). ComesBefore old.number (length old.seat.reserve) n command reply call.first) call.rested.told.answered call.comes;
     entries = call.told;
     spare = call.room;
+    no_more = call.no_more;
   }
 
   -- an object is made under the seat's next number

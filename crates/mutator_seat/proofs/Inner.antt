@@ -131,6 +131,7 @@ module _ (inside value : SeatHeld) (inner : Inner) (view : inside ≡ value) (re
         mine = ends.1.mine;
         comes = over_then;
         room = omega (arith, makes_on.room_stays, ap (length {A = Entry}) stands.kept);
+        no_more = makes_on.no_more;
         graph_stays = ap (λ (h : Heap). graph_after (opening h) new.seat.mine) makes_on.heap_stays ∙ ap (graph_after (opening value.heap)) ends.1.mine
             ∙ fold-append after_entry (opening value.heap) value.seat.mine ends.0
             ∙ inner_quiet (FoundIn steps.0) value.number (kept_of value.seat) (kept_of new.seat) ends.0 inner (own_graph (seat_state value)) over_then;

@@ -44,7 +44,7 @@ KeepsWhereRefused old new replies.NoObject = KeepsOwn old.seat new.seat
 KeepsWhereRefused old new replies.NoField = KeepsOwn old.seat new.seat
 KeepsWhereRefused old new _ = Unit {0}
 
--- the seat rested, made steps one after another from the command's begin on, and no call is in flight; its new entries are those of the command, the reply last, which stands on what the steps found
+-- the seat rested, made steps one after another from the command's begin on, and no call is in flight; its new entries are those of the command, the reply last, which stands on what the steps found, and no room was made
 pub record MakesCall (old new : SeatHeld) (command : Command) (reply : Reply) : Type 0 where
   pub rested : Rests old
   pub made : List Made
@@ -56,6 +56,7 @@ pub record MakesCall (old new : SeatHeld) (command : Command) (reply : Reply) : 
   pub comes : ComesBefore old.number (length old.seat.reserve) old.seat.answered command reply first
   pub stands : StandsOn (ToldIn old made) old.heap old.number command (kept_of old.seat) (kept_of new.seat) first reply
   pub room : old.spare + length old.seat.mine ≤ new.spare + length new.seat.mine
+  pub no_more : new.spare ≤ old.spare
   pub cause : IsCauseOf made old reply
   pub refused : KeepsWhereRefused old new reply
   pub waits_stay : new.seat.looks.waits ≡ old.seat.looks.waits

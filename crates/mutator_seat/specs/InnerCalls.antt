@@ -25,7 +25,7 @@ pub record MayCollect (seat : SeatState) : Type 0 where
 abbrev pub begun_inner : SeatHeld → Inner → SeatHeld
 begun_inner held inner = record held { seat = after_inner_begin held.seat inner }
 
--- the seat rested, made steps one after another from the inner call's begin on, and no call is in flight; it keeps and tells what the inner call comes to by what they found
+-- the seat rested, made steps one after another from the inner call's begin on, and no call is in flight; it keeps and tells what the inner call comes to by what they found, and no room was made
 pub record MakesInner (old new : SeatHeld) (inner : Inner) : Type 0 where
   pub rested : Rests old
   pub made : List Made
@@ -35,6 +35,7 @@ pub record MakesInner (old new : SeatHeld) (inner : Inner) : Type 0 where
   pub mine : new.seat.mine ≡ old.seat.mine ++ told
   pub comes : IsInnerOver (FoundIn made) old.number (kept_of old.seat) (kept_of new.seat) told inner
   pub room : old.spare + length old.seat.mine ≤ new.spare + length new.seat.mine
+  pub no_more : new.spare ≤ old.spare
   -- what the seat's own list tells of registers, objects and sets stays
   pub graph_stays : own_graph (seat_state new) ≡ own_graph (seat_state old)
 

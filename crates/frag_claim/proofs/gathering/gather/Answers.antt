@@ -2,7 +2,7 @@ use Rattle.std.proofs.Common.{◌≡◌, ℕ, ◌+◌, ◌++◌, length, sym, ap
 use Rattle.core_machine.specs.seat.Seat.{Seat}
 use Rattle.heap_table.proofs.MadeSteps.{makes_steps_of_append}
 use Rattle.frag_claim.specs.Due.{has_its_fragments}
-use Rattle.frag_claim.proofs.Gathers.{has_gathered_enough, gathered_is_what_is_needed, gathered_has_its_fragments, refused_heap_is_exhausted, refused_keeps_reserve, body_has_few_fragments}
+use Rattle.frag_claim.proofs.Gathers.{gather_keeps_command, has_gathered_enough, gathered_is_what_is_needed, gathered_has_its_fragments, refused_heap_is_exhausted, refused_keeps_reserve, body_has_few_fragments}
 use Rattle.frag_claim.proofs.gathering.gather.Goals as goal
 
 pub take_over-requires-clause-reserve : goal.take_over-requires-clause-reserve
@@ -79,3 +79,20 @@ returns-clause-exhausted g c = λ made makes.
     omega (arith, c.len.ensures.value, held, c.return_groups.ensures.all, c.claim_groups.ensures.ends.none_given) in
     (refused_heap_is_exhausted made c.args.holder.now c.return_groups.new.holder c.args.reserve.now.fragments.items c.args.reserve.now.cursor c.args.need c.requires.begins c.claim_groups.ensures.begun
     makes (c.len.result + length c.hand.result.now) c.return_groups.ensures.sound c.return_groups.ensures.point counted).0
+
+pub returns-then-has_its_fragments-clause-command : goal.returns-then-has_its_fragments-clause-command
+returns-then-has_its_fragments-clause-command g c =
+    gather_keeps_command c.claim_groups.ensures.steps.0 c.args.holder.now c.claim_groups.new.holder c.args.reserve.now.fragments.items c.args.reserve.now.cursor c.args.need c.requires.begins
+    c.claim_groups.ensures.begun c.claim_groups.ensures.steps.1
+
+pub returns-clause-command : goal.returns-clause-command
+returns-clause-command g c =
+    let one = c.claim_groups.ensures.steps in
+    let two = c.return_groups.ensures.steps in
+    gather_keeps_command (one.0 ++ two.0) c.args.holder.now c.return_groups.new.holder c.args.reserve.now.fragments.items c.args.reserve.now.cursor c.args.need c.requires.begins c.claim_groups.ensures.begun
+    (makes_steps_of_append c.args.holder.now c.claim_groups.new.holder c.return_groups.new.holder one.0 two.0 one.1 two.1)
+
+pub returns-clause-found : goal.returns-clause-found
+returns-clause-found g c =
+    let held : length c.hand.result.now ≡ length c.claim_groups.new.holder.seat.hand = ap (length {A = ℕ}) c.hand.ensures ∙ ap (λ (s : Seat). length s.hand) c.party-2.ensures.seat in
+    omega (arith, c.len.ensures.value, held, c.return_groups.ensures.all, c.claim_groups.ensures.ends.none_given)
