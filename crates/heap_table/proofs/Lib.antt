@@ -13,3 +13,5 @@ pub mod SeatHolders
 pub mod CollectorHolders
 pub mod Histories
 pub mod MadeSteps
+pub mod OneGo
+pub mod NearFields

@@ -8,6 +8,7 @@ pub mod Told
 pub mod Handing
 pub mod TokenOf
 pub mod SeatHeld
+pub mod Ahead
 pub mod CollectorHeld
 pub mod Opened
 pub mod Closed

@@ -19,7 +19,10 @@ use std::marker::{Brand, Model};
 mod access;
 mod handshake;
 mod making;
+mod near;
+mod near_set;
 mod spine;
+mod starting;
 
 /// One seat of a table: the right to make its steps, with what is kept of it and its log.
 #[derive(Drop)]

@@ -1,6 +1,7 @@
 //! One heap's words in a table of atomic words that threads share, under the machine's own rule.
 #![tactic(auto)]
 
+mod ahead;
 mod closed;
 mod closed_words;
 mod closing;

@@ -13,6 +13,7 @@ use core_machine::{Operation, Step};
 use heap_model::Heap;
 
 /// Makes the step on its word, and answers the word found; of a store, the word stored. The party is named for what is told of it alone.
+#[inline(always)]
 pub(crate) fn touch<T: Telling, P>(
     table: &Words,
     token: &mut Token,

@@ -8,4 +8,5 @@ pub mod Refusals
 pub mod Replied
 pub mod Running
 pub mod Since
+pub mod Started
 pub mod Whole

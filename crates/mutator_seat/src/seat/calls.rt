@@ -4,20 +4,20 @@ ghost use Rattle.mutator_seat.specs.Calls.{MakesCall};
 ghost use Rattle.mutator_seat.specs.Replies.{IsReplyTo};
 ghost use Rattle.mutator_seat.specs.Resting.{seat_state};
 
-use crate::run::{last_reply, run};
+use crate::run::{last_reply, run_whole};
 use crate::seat::Seat;
 use core_machine::ShowsLast;
 use heap_model::{Command, Reply};
 
 impl<L: ShowsLast> Seat<L> {
     /// Makes a whole call, step by step, while others may step between any two, and answers its reply.
+    #[inline(always)]
     pub fn call(&mut self, command: &Command) -> Reply
         requires ready { IsReady (seat_state self.old) command.now }
         requires served { IsServed command.now }
         ensures { MakesCall self.old self.new command.now result }
     {
-        self.holder.begin(*command);
-        run(&mut self.holder);
+        run_whole(&mut self.holder, command);
         match last_reply(self.holder.party()) {
             Some(reply) => reply,
             None => unreachable!(),
@@ -25,6 +25,7 @@ impl<L: ShowsLast> Seat<L> {
     }
 
     /// Makes a whole call, and answers its reply, which is of a kind that the command can have.
+    #[inline(always)]
     pub(crate) fn reply_to(&mut self, command: &Command) -> Reply
         requires ready { IsReady (seat_state self.old) command.now }
         requires served { IsServed command.now }
