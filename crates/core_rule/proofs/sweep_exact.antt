@@ -8,3 +8,4 @@ pub mod GoneSeats
 pub mod AllGone
 pub mod LastCycle
 pub mod Reserves
+pub mod Bringing

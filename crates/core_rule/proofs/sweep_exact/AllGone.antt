@@ -18,7 +18,7 @@ use Rattle.core_rule.proofs.growth.LaterGraphs.{accepts_later}
 use Rattle.core_rule.proofs.growth.RegisterIds.{root_is_in_register}
 
 -- a seat that has left is gone, and brings nothing
-record IsThrough (heap : Heap) (number : ℕ) (history : List Entry) : Type 0 where
+pub record IsThrough (heap : Heap) (number : ℕ) (history : List Entry) : Type 0 where
   pub gone : IsGone (graph_of heap history) number
   pub none : brings number history ≡ 0
 
@@ -39,7 +39,7 @@ leave_brings heap play history number reply keeps =
     (omega (arith, keeps.makes.1))
 
 module _ (heap : Heap) (play : Bool) (number : ℕ) where
-  abbrev WhereLeft : List Entry → Type 0
+  abbrev pub WhereLeft : List Entry → Type 0
   WhereLeft history = has_left number history ≡ true → IsThrough heap number history
 
   -- an entry that makes it leave, or another's
@@ -70,7 +70,7 @@ module _ (heap : Heap) (play : Bool) (number : ℕ) where
       (through_after (before ++ entry ∷ []) later rest (subst (λ g. AcceptsAll g (later ++ rest)) (sym (graph_after-more (opening heap) before entry)) accepts.1) keeps.1
       (through_more before entry accepts.0 keeps.0 through))
 
-  through_legal : (history rest : List Entry) → IsLegal heap play (history ++ rest) → WhereLeft history
+  pub through_legal : (history rest : List Entry) → IsLegal heap play (history ++ rest) → WhereLeft history
   through_legal history rest legal = through_after [] history rest legal.objects legal.space (λ left. absurd (cc))
 
 -- the first section of what a graph accepts

@@ -10,8 +10,8 @@ use Rattle.heap_model.specs.graph.Reach.{IsReach}
 use Rattle.heap_model.specs.account.Account.{IsLegal}
 use Rattle.heap_model.specs.account.Cycles.{graph_of, IsReachOfBoth, EndsCycle}
 use Rattle.heap_model.specs.account.PhaseCounts.{has_left}
-use Rattle.heap_model.specs.account.Space.{fragments_gained, fragments_lost, fragments_used, words_granted, words_returned, words_used}
-use Rattle.heap_model.specs.account.Windows.{up_to_cycle}
+use Rattle.heap_model.specs.account.Space.{fragments_gained, fragments_lost, fragments_unborn, fragments_used, words_granted, words_returned, words_used}
+use Rattle.heap_model.specs.account.Windows.{up_to_cycle, up_to_reply}
 use Rattle.core_machine.specs.machine.Machine.{State, seat_at, Event, Run, history}
 use Rattle.core_machine.specs.machine.Opening.{IsOpening}
 use Rattle.core_rule.specs.Book.{Book}
@@ -54,3 +54,12 @@ pub record HasSmallReserve (heap : Heap) (state : State) (book : Book) (number :
 -- by the rule that is so of each seat
 abbrev pub EachReserveIsSmall : Type 0
 EachReserveIsSmall = (heap : Heap) (state : State) (book : Book) (number : ℕ) → Rule heap state book → number < heap.seats → HasSmallReserve heap state book number
+
+-- what a seat had at its last reply and had made into no object is at most a reserve, and nothing where it has left
+pub record BringsLittle (history : List Entry) (number : ℕ) : Type 0 where
+  pub small : fragments_unborn number (up_to_reply number history) ≤ most_reserve
+  pub gone : has_left number history ≡ true → fragments_unborn number (up_to_reply number history) ≡ 0
+
+-- in each legal history that is so of each seat
+abbrev pub EachSeatBringsLittle : Type 0
+EachSeatBringsLittle = (heap : Heap) (play : Bool) (history : List Entry) (number : ℕ) → IsLegal heap play history → BringsLittle history number

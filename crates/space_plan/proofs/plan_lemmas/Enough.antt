@@ -35,7 +35,8 @@ use Rattle.space_plan.specs.plan.Seats.{unborn_at_replies}
 use Rattle.space_plan.proofs.plan_lemmas.CycleSums.{bound_is_sum, taken_since_end-more}
 use Rattle.heap_model.proofs.account_lemmas.Fronts.{back_keeps_rules}
 use Rattle.heap_model.proofs.account_lemmas.LastEntries.{has_last, no_last, parted_at_last}
-use Rattle.space_plan.proofs.plan_lemmas.LegalFronts.{begun_before_end, reserve_is_small}
+use Rattle.space_plan.proofs.plan_lemmas.LegalFronts.{begun_before_end}
+use Rattle.core_rule.proofs.sweep_exact.Bringing.{reserve_is_small}
 use Rattle.space_plan.proofs.plan_lemmas.MomentLemmas.{passing_stands}
 
 -- each element has one that stands beside it
@@ -62,7 +63,7 @@ module _ (heap : Heap) (history : List Entry) (lines : List CyclePlan) (reach ta
   reserves_are_small : (front rest : List Entry) → history ≡ front ++ rest → unborn_at_replies heap front ≤ 15 * heap.seats
   reserves_are_small front rest parted =
       let each = sum_by-le (λ number. fragments_unborn number (up_to_reply number front)) 15 (range_with_len 0 heap.seats)
-      (λ k d within. reserve_is_small heap front rest (get_or (range_with_len 0 heap.seats) k d) (subst (λ es. KeepsSpaceAfter heap true [] es) parted kept)) in
+      (λ k d within. reserve_is_small heap true front rest (get_or (range_with_len 0 heap.seats) k d) (subst (λ es. KeepsSpaceAfter heap true [] es) parted kept)) in
       omega (arith, each, length-range_with_len 0 heap.seats)
 
   -- since the last end no more was taken than the most
