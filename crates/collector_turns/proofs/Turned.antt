@@ -21,7 +21,7 @@ module _ (old new : CollectorValue) (found : ℕ) (turn : Turn) (turned : IsTurn
       }))
 
   pub turns_by : new.last_turn ≡ Some turn → Turns (state_of old) (state_of new) turn
-  turns_by last = record { comes_to = comes_to; spare = turned.room_stays; counted = turned.counted; last = last }
+  turns_by last = record { comes_to = comes_to; spare = turned.room_stays; no_more = λ some. turned.no_more; counted = turned.counted; last = last }
 
   last_phase : (cycle kept : ℕ) → turn ≡ Ended cycle kept → old.holder.known.collector.phase ≡ 7 * cycle + 6
   last_phase cycle kept ended = (subst (ComesTo (state_of old) (state_of new)) ended comes_to).1
