@@ -90,6 +90,7 @@ call_answers_once unused words old new number command reply s between may calls 
             (calls.call.comes (λ poll. phase_word_is_near heap state old.history s number may.within idle present));
         entries = calls.noted;
         spare = calls.spare;
+        no_more = calls.no_more;
       };
       turns_stay = calls.turns_stay;
       last_stays = calls.last_stays;

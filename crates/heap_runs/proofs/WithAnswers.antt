@@ -109,6 +109,7 @@ module _ (old new : PlayState) (added : List Entry) (grown : new.entries ≡ old
       comes = subst (λ (p : ℕ). ComesBefore number adds.unborn p command reply adds.before) (last_answer_without_turned old.entries number) adds.comes;
       entries = more_is _ adds.entries;
       spare = longer old.spare new.spare adds.spare;
+      no_more = adds.no_more;
     }
 
     once_with : AnswersOnce (bare old) (bare new) number command reply → AnswersOnce old new number command reply
@@ -184,6 +185,7 @@ module _ (old new : PlayState) (added : List Entry) (grown : new.entries ≡ old
       own = takes.own;
       turned = record {
         comes_to = comes_with turn takes.turned.comes_to;
+        no_more = takes.turned.no_more;
         spare = omega (
           arith,
           takes.turned.spare,

@@ -1,7 +1,8 @@
 -- A collect of a seat while others step, by the seat's own inner calls.
-use Rattle.std.specs.Prelude.{◌≡◌, ℕ, ◌+◌, ◌-◌, ◌*◌, ◌^◌, ◌<◌, ◌≤◌, ◌⊎◌, false, List, [], ◌∷◌, ◌++◌, Some}
+use Rattle.std.specs.Prelude.{◌≡◌, ℕ, ◌+◌, ◌-◌, ◌*◌, ◌^◌, ◌<◌, ◌≤◌, ◌⊎◌, false, List, [], ◌∷◌, ◌++◌, Option, Some, None}
 use Rattle.std.specs.List.{AllByRecursion}
 use Rattle.heap_model.specs.Behind.{behind_of}
+use Rattle.heap_model.specs.declared.behind.Behind.{Behind}
 use Rattle.heap_model.specs.calls.SeatState.{own_graph, own_graph_seat}
 use Rattle.heap_model.specs.declared.calls.collect.CollectReply.{CollectReply}
 use Rattle.heap_model.specs.declared.calls.collect.CollectReply.TheVariants.{Cycle, Waits}
@@ -12,6 +13,7 @@ use Rattle.heap_model.specs.declared.entry.Entry.{Entry}
 use Rattle.heap_model.specs.declared.entry.Entry.TheVariants.{Said, Answers}
 use Rattle.heap_model.specs.PhasePlan.{cycle_phases}
 use Rattle.core_machine.specs.declared.seat.looks.Looks.{Looks}
+use Rattle.core_machine.specs.machine.Machine.{MayBeginInner}
 use Rattle.core_machine.specs.seat.Looks.{MayNote, noted_reply}
 use Rattle.heap_table.specs.SeatHeld.{SeatHeld}
 use Rattle.mutator_seat.specs.InnerCalls.{MakesInner}
@@ -89,3 +91,8 @@ pub record AnswersCollect (patience : ℕ) (old new : SeatHeld) (reply : Collect
 abbrev pub MayAnswer : ℕ → ℕ → Looks → CollectReply → Type 0
 MayAnswer target enough looks (Cycle cycle) = (cycle ≡ target) × MayNote looks (Cycle cycle)
 MayAnswer target enough looks (Waits other answered phase) = (enough ≤ looks.waits) × MayNote looks (Waits other answered phase)
+
+-- the seat may note no end of its target now, and has found others behind too seldom, or nobody just now
+pub record LacksReply (target enough : ℕ) (held : SeatHeld) (found : Option Behind) : Type 0 where
+  pub unended : ¬ MayBeginInner held.heap held.number held.seat (Note (Cycle target))
+  pub impatient : (held.seat.looks.waits < enough) ⊎ (found ≡ None)

@@ -50,11 +50,12 @@ impl MachineHeap {
 }
 
 impl MachineHeap {
-    /// Makes room for what a turn may add.
+    /// Makes room for what a turn may add, where there is too little.
     fn make_ready(&mut self) -> Result<(), Memory>
         ensures still { StandsStill self.old self.new }
         ensures more { self.old.spare ≤ self.new.spare }
         ensures room { OnOk result (2 ≤ self.new.spare) }
+        ensures enough { 2 ≤ self.old.spare → self.new ≡ self.old }
         ensures memory { OnErr result (self.old.spare < 2) }
     {
         if self.spare() < 2 {

@@ -1,7 +1,7 @@
 ghost use Rattle.std.specs.Prelude.{◌≡◌, ◌+◌, ◌*◌, ◌<◌, ◌≤◌, Some, IfOk, IfSome, IfNone, OnErr};
 ghost use Rattle.heap_model.specs.declared.calls.collect.CollectReply.TheVariants.{Cycle};
 ghost use Rattle.core_machine.specs.seat.Looks.{MayNote};
-ghost use Rattle.heap_runs.specs.CollectCall.{IsPresent, LooksAround, MayAnswer, AnswersCollect};
+ghost use Rattle.heap_runs.specs.CollectCall.{IsPresent, LooksAround, MayAnswer, LacksReply, AnswersCollect};
 
 use crate::role::{Held, HeldName};
 use heap_model::{Behind, CollectReply, Inner, Memory, SeatCalls, Turn};
@@ -52,7 +52,8 @@ fn find_out(seat: &mut Seat, turn: Turn) -> Result<Option<Behind>, Memory>
 /// The reply to the collect, once there is one: first that the target has ended, and only else, once others were found behind so often, that it waits for this one.
 fn reply_to(seat: &Seat, target: u64, enough: u64, found: Option<Behind>) -> Option<CollectReply>
     requires { IfSome found (λ behind. seat.now.seat.looks.behind ≡ Some behind) }
-    ensures { IfSome result (MayAnswer target enough seat.now.seat.looks) }
+    ensures answers { IfSome result (MayAnswer target enough seat.now.seat.looks) }
+    ensures none { IfNone result (LacksReply target enough seat.now found) }
 {
     let ended = CollectReply::Cycle(target);
     if seat.may_make(&Inner::Note(ended)) {

@@ -137,6 +137,7 @@ growing_answers_once old new number command all plain heap entries spare turns l
     comes = comes_plain number (last_answer number old.entries) command plain;
     entries = entries;
     spare = omega (arith, spare, ap (length {A = Entry}) entries, length-append old.entries (Said number command Done ∷ []));
+    no_more = omega (arith, spare);
   };
   turns_stay = turns;
   last_stays = last;

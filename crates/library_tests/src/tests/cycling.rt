@@ -53,9 +53,9 @@ fn note(log: &mut Vec<Entry>, entry: Entry)
     requires { vec_len log.old < vec_capacity log.old }
     ensures items { log.new.items ≡ log.old.items ++ entry ∷ [] }
     ensures len { vec_len log.new ≡ vec_len log.old + 1 }
-    ensures capacity { vec_capacity log.old ≤ vec_capacity log.new }
+    ensures capacity { vec_capacity log.new ≡ vec_capacity log.old }
 {
-    let _ = log.push(entry);
+    log.push_reserved(entry);
 }
 
 /// What a step adds that ends no phase.

@@ -3,12 +3,10 @@
 ghost use Rattle.std.specs.Prelude.{◌≡◌, ◌≤◌, []};
 ghost use Rattle.heap_model.specs.declared.command.Command.TheVariants.{Array};
 ghost use Rattle.heap_model.specs.Needs.{spine_need_of};
-ghost use Rattle.core_machine.specs.declared.point.Making.TheVariants.{Refusing};
-ghost use Rattle.core_machine.specs.declared.point.Point.TheVariants.{Making};
 
 use super::{has, kept, lone_seat, no_fragments, takes_in_vain, tells};
 use crate::tests::comparing::same;
-use array_spine::{Budget, SpineFull, bear_array, cell_at, drop_budget, take_budget};
+use array_spine::{SpineFull, bear_array, cell_at, drop_budget, take_budget};
 use core_machine::Access;
 use frag_claim::{Hand, gather};
 use heap_model::{Command, Entry, Id, Memory};
@@ -17,17 +15,6 @@ use object_chain::Place;
 use std::alloc::Global;
 use std::process::Abort;
 use std::test::Fail;
-
-/// Takes back the words of an array of so many cells, for which fragments were too few.
-fn give_words_back(holder: &mut Holder, budget: Budget, cells: u16)
-    requires refusing { holder.old.seat.point ≡ Making Refusing }
-    requires words { spine_need_of (Array 1 cells) ≡ budget.words }
-    requires room { 2 ≤ holder.old.spare }
-{
-    if holder.party().command() == (Command::Array { d: 1, cells }) {
-        drop_budget(holder, budget);
-    }
-}
 
 /// Makes an array of so many cells for register 1, by gathering and bearing, or tells that its spine words are refused; none where it may not be begun, or
 /// fragments are too few.
@@ -61,7 +48,7 @@ fn make_array(
             Ok(Some(Ok(id)))
         }
         Err(_) => {
-            give_words_back(holder, budget, cells);
+            drop_budget(holder, budget);
             Ok(None)
         }
     }
@@ -91,7 +78,7 @@ fn reach_cell(holder: &mut Holder, cell: u16) -> Result<Option<Place>, Memory> {
     let Command::Get { i, .. } = party.command() else {
         return Ok(None);
     };
-    if i != u32::from(cell) || u16::from(party.part()) != cell % 4 {
+    if i != u32::from(cell) {
         return Ok(None);
     }
     let sentinel = party.reached();
