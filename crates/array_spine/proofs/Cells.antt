@@ -1,5 +1,5 @@
 -- The steps by which a cell is reached through the spine.
-use Rattle.std.proofs.Common.{◌≡◌, ℕ, ◌+◌, ◌/◌, List, [], ◌∷◌, Some, sym, ap, subst, ◌∙◌, append-nil}
+use Rattle.std.proofs.Common.{◌≡◌, ℕ, ◌+◌, ◌/◌, ◌%◌, Bool, cond, List, [], ◌∷◌, Some, sym, ap, subst, ◌∙◌, append-nil}
 use Rattle.std.specs.Prelude.{option_map}
 use Rattle.heap_words.specs.Spot.{spot_in}
 use Rattle.heap_model.specs.declared.entry.Entry.{Entry}
@@ -12,7 +12,7 @@ use Rattle.core_machine.specs.declared.step.Step.TheVariants.{Spine}
 use Rattle.core_machine.specs.declared.point.Access.TheVariants.{LoadingSpot}
 use Rattle.core_machine.specs.seat.Commands.{field_of}
 use Rattle.core_machine.specs.seat.Registers.{register_head}
-use Rattle.core_machine.specs.seat.Access.{after_address, after_index, at_payload}
+use Rattle.core_machine.specs.seat.Access.{after_address, after_index, at_payload, part_of}
 use Rattle.core_machine.specs.seat.Seat.{Seat, with_entries}
 use Rattle.core_rule.specs.cycle.Flight.{WhileAccess}
 use Rattle.core_rule.specs.told.Reached.{ReachesInBook}
@@ -65,6 +65,14 @@ module _ (old mid new : SeatHeld) (sentinel index address word : ℕ) (begins : 
       let reached : ReachesInBook old.heap old.number old.seat address LoadingSpot = subst (WhileAccess (ReachesInBook old.heap old.number old.seat address)) begins.point_is told.tells.reached in
       let array = reached.there.reaches in
       ap register_head array.on.holds ∙ ap (λ (n : ℕ). Some n) (sym array.on.in_order ∙ begins.sentinel_is)
+
+  -- the word of the fragment is the cell's, since what the register holds is an array
+  pub reached_part_is_cells : new.seat.part ≡ index % 4
+  reached_part_is_cells =
+      let reached : ReachesInBook old.heap old.number old.seat address LoadingSpot = subst (WhileAccess (ReachesInBook old.heap old.number old.seat address)) begins.point_is told.tells.reached in
+      let array = reached.there.reaches in
+      let field = field_of old.seat.command in
+      ap (λ (s : Seat). s.part) indexed ∙ array.field.part_is ∙ ap (λ (b : Bool). cond b (field % 4) (part_of field)) array.an_array ∙ ap (λ (n : ℕ). n % 4) begins.index_is
 
   -- the seat is at its cell
   pub seat_is_at_cell : IsAtField new.seat.point

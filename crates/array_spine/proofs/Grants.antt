@@ -18,6 +18,7 @@ use Rattle.core_machine.specs.seat.Commands.{IsArrayCall}
 use Rattle.core_machine.specs.seat.Making.{gather_next, after_budget}
 use Rattle.core_machine.specs.seat.Seat.{Seat, spine_need, with_entries}
 use Rattle.core_machine.proofs.seat_lemmas.Fitting.{budget_cases, goes_on_cases, settled_cases, returning_cases}
+use Rattle.core_machine.proofs.own_stages.Gather.{going_on_keeps_command}
 use Rattle.heap_table.specs.Made.{Made, FoundIn, MakesSteps}
 use Rattle.heap_table.specs.SeatHeld.{SeatHeld, IsStepped}
 use Rattle.heap_table.specs.Told.{ToldAtStep}
@@ -75,6 +76,11 @@ module _ (old mid : SeatHeld) (words found : ℕ) (begins : BeginsGranting old w
       enough = budget_cases (λ s. is_withdrawing s.point ≡ false → found + spine_need old.seat ≤ old.heap.spine) old.heap old.seat found (λ lacks e. absurd (differ e)) (λ grants e. grants) (withdraws false is);
     },
   )
+
+  -- whichever it is, its command stays
+  pub asking_keeps_command : mid.seat.command ≡ old.seat.command
+  asking_keeps_command =
+      ap (λ (s : Seat). s.command) asked ∙ budget_cases (λ s. s.command ≡ old.seat.command) old.heap old.seat found (λ lacks. refl) (λ grants. going_on_keeps_command old.heap old.seat)
 
   -- else they are too many, and are taken back
   too_many : is_withdrawing mid.seat.point ≡ true → (old.heap.spine < found + spine_need old.seat) × (after_budget old.heap old.seat found ≡ asked_for_too_many old.seat found)

@@ -1,5 +1,5 @@
 -- A call goes through an array's spine to its cell.
-use Rattle.std.specs.Prelude.{◌≡◌, ℕ, ◌+◌, ◌/◌, ◌%◌, List}
+use Rattle.std.specs.Prelude.{◌≡◌, ℕ, ◌+◌, ◌/◌, List}
 use Rattle.heap_words.specs.Loaded.{payload_in}
 use Rattle.heap_words.specs.Spot.{spot_in}
 use Rattle.core_machine.specs.declared.point.Access.TheVariants.{LoadingSpot}
@@ -15,7 +15,6 @@ pub record BeginsLocating (held : SeatHeld) (sentinel index : ℕ) : Type 0 wher
   pub point_is : held.seat.point ≡ points.Access LoadingSpot
   pub sentinel_is : held.seat.reached ≡ sentinel
   pub index_is : field_of held.seat.command ≡ index
-  pub part_is : held.seat.part ≡ index % 4
 
 -- one of these steps found where the spine stands, another the spine word of the cell there, and that names this fragment
 pub record IsNamedBySpine (made : List Made) (sentinel index fragment : ℕ) : Type 0 where

@@ -42,6 +42,7 @@ pub fn take_budget<L: Entries>(holder: &mut Holder<L>, words: u16) -> Result<Bud
     ensures steps { (made : List Made) × MakesSteps holder.old holder.new made
         × MatchResult result (λ budget. IsGranted (FoundIn made) holder.old.heap holder.old.seat.command) (λ full. IsTurnedDown made holder.old.heap full) }
     ensures words { IfOk result (λ budget. budget.words ≡ words) }
+    ensures command { OnOk result (holder.new.seat.command ≡ holder.old.seat.command) }
     ensures gathers { OnOk result (holder.new.seat ≡ gather_next holder.old.heap holder.old.seat) }
     ensures room { OnOk result (holder.old.spare ≤ holder.new.spare) }
     ensures need { IfErr result (λ full. full.need ≡ words) }

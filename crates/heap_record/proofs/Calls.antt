@@ -149,4 +149,5 @@ call_is_made old new one two number command reply facts is same =
       turns_stay = is.turns_stay;
       last_stays = is.last_stays;
       spare = room_lost_within_entries old new (since one two number) is;
+      no_more = omega (arith, is.left);
     }

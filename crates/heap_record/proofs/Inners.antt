@@ -64,4 +64,5 @@ inner_is_made old new one two number inner facts is same = record {
   turns_stay = is.turns_stay;
   last_stays = is.last_stays;
   spare = room_lost_within_entries old new (since one two number) is;
+  no_more = omega (arith, is.left);
 }

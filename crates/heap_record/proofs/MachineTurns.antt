@@ -53,6 +53,7 @@ turn_is_made runs each old new turn told led is told_is can after answered count
       turned = record {
         comes_to = subst (ComesTo (collector_of old) (collector_of new)) (sym answered) comes.1;
         spare = omega (arith, kept, longer, filtered);
+        no_more = λ some. omega (arith, is.left);
         counted = counted;
         last = last;
       };

@@ -77,7 +77,7 @@ pub record StandsStill (old new : Recorded) : Type 0 where
   pub turns_stay : new.turns ≡ old.turns
   pub last_stays : new.last_turn ≡ old.last_turn
 
--- a whole call was made: its steps and its answer are the machine's, the history has its entries, what it refuses changes nothing, and no turn was made
+-- a whole call was made: its steps and its answer are the machine's, the history has its entries, what it refuses changes nothing, and no turn was made and no room of the collector's
 pub record MakesCall (old new : Recorded) (number : ℕ) (command : Command) (reply : Reply) : Type 0 where
   pub same_heap : new.machine.heap ≡ old.machine.heap
   pub call : PlaysCall old.machine.heap old.machine.state new.machine.state number command reply
@@ -91,8 +91,9 @@ pub record MakesCall (old new : Recorded) (number : ℕ) (command : Command) (re
   pub turns_stay : new.turns ≡ old.turns
   pub last_stays : new.last_turn ≡ old.last_turn
   pub spare : old.spare + length old.history ≤ new.spare + length new.history
+  pub no_more : new.spare ≤ old.spare
 
--- a whole inner call of the machine was made, the history has what it told, and no turn was made
+-- a whole inner call of the machine was made, the history has what it told, and no turn was made and no room of the collector's
 pub record MakesInner (old new : Recorded) (number : ℕ) (inner : Inner) : Type 0 where
   pub same_heap : new.machine.heap ≡ old.machine.heap
   pub plays : PlaysInner old.machine.heap old.machine.state new.machine.state number inner
@@ -101,6 +102,7 @@ pub record MakesInner (old new : Recorded) (number : ℕ) (inner : Inner) : Type
   pub turns_stay : new.turns ≡ old.turns
   pub last_stays : new.last_turn ≡ old.last_turn
   pub spare : old.spare + length old.history ≤ new.spare + length new.history
+  pub no_more : new.spare ≤ old.spare
 
 -- the machine made one turn, as which it answered, and the history has what it told, which is the collector's
 pub record MakesTurn (old new : Recorded) (turn : Turn) : Type 0 where

@@ -1,5 +1,5 @@
-ghost use Rattle.std.specs.Prelude.{◌≡◌, ◌≢◌, ℕ, ◌+◌, ◌-◌, ◌≤◌, ◌++◌, length, drop, vec_len, vec_capacity};
-ghost use Rattle.core_machine.specs.machine.Value.{IsParty, recent_of, spare_of};
+ghost use Rattle.std.specs.Prelude.{◌≡◌, ◌≢◌, ℕ, ◌+◌, ◌-◌, ◌<◌, ◌≤◌, ◌++◌, length, drop, vec_len, vec_capacity};
+ghost use Rattle.core_machine.specs.machine.Value.{IsParty, forgotten_of, log_of, recent_of, spare_of};
 ghost use Rattle.heap_record.specs.Recorded.{claimed_by};
 
 use core_machine::{Machine, ShowsRecent};
@@ -37,6 +37,7 @@ pub fn note_since<L: ShowsRecent>(
     ensures left { spare.new ≡ spare.old - length (drop before (recent_of machine.old party)) }
     ensures same { machine.new ≡ record machine.old { spares = machine.new.spares; forgotten = machine.new.forgotten } }
     ensures more { spare_of machine.old party ≤ spare_of machine.new party }
+    ensures forgotten { 0 < length (drop before (recent_of machine.old party)) → forgotten_of machine.new party ≡ L.forgets (forgotten_of machine.old party) (length (log_of machine.old party)) }
     ensures others { (other : ℕ) → other ≢ party → spare_of machine.new other ≡ spare_of machine.old other }
 {
     let (_, told) = machine.recent(party).split_at(before);

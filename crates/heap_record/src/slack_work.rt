@@ -29,12 +29,14 @@ pub trait SlackWork {
         ensures ended { over self.new };
 }
 
-/// Makes one slack after another until no more is wanted, and lets go of the lock after each.
+/// Makes one slack after another until no more is wanted, and lets go of the lock after each. It returns without a fault only once it has seen that no more is wanted.
 pub fn work_slack<W: SlackWork, R: Wait>(
     rt: &R,
     held: &Mutex<W>,
     own: &mut W::Own,
-) -> Result<(), Memory> {
+) -> Result<(), Memory>
+    ensures over { OnOk result ((seen : W) × W.over seen) }
+{
     for _ in rt.forever() {
         let mut here = held.lock(rt);
         if here.is_over() {

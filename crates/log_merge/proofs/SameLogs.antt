@@ -20,7 +20,7 @@ use Rattle.heap_model.specs.graph.Legal.{Accepts, AcceptsAll, IsObjectLegal}
 use Rattle.log_merge.proofs.merge_lemmas.Counting.{sum_grows_at_one, sum_of_same_parts}
 use Rattle.log_merge.proofs.merge_lemmas.Finding.{present_seat_is_there}
 use Rattle.log_merge.proofs.merge_lemmas.Parts.{filter-yes, filter-no}
-use Rattle.log_merge.proofs.merge_lemmas.Rests.{seat_count_after_entry}
+use Rattle.log_merge.proofs.merge_lemmas.Changes.{seat_count_after_entry}
 
 -- an accepted entry that has a seat has one of the graph's
 seat_there : (g : Graph) (e : Entry) → Accepts g e → IsSeatBelow (length g.seats) e

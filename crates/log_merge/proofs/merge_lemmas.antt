@@ -3,6 +3,7 @@ pub mod Changes
 pub mod Commuting
 pub mod Counting
 pub mod Exchange
+pub mod FewSets
 pub mod Finding
 pub mod Kinds
 pub mod MergerLemmas

@@ -1,4 +1,5 @@
 pub mod Checking
+pub mod FewSets
 pub mod Legal
 pub mod Lines
 pub mod Merging

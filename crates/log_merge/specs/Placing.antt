@@ -13,6 +13,7 @@ use Rattle.heap_model.specs.graph.Legal.{IsObjectLegal}
 use Rattle.heap_model.specs.account.Cycles.{graph_of}
 use Rattle.log_merge.specs.declared.merging.merger.Merger.{Merger}
 use Rattle.log_merge.specs.declared.merging.pending_gets.PendingGet.{PendingGet}
+use Rattle.log_merge.specs.FewSets.{HaveFewSets}
 use Rattle.log_merge.specs.Merging.{part_of, left_of, IsNext, IsReady, TakesFirstReady}
 use Rattle.log_merge.specs.PendingGets.{is_kind, pending_count}
 use Rattle.log_merge.specs.Registers.{kind_of, gets_in, registers_of}
@@ -37,10 +38,11 @@ count_in heap logs placed kind number = count_by (is_kind kind) (gets_in (regist
 abbrev pub count_left : Heap → List (List Entry) → List Entry → PendingGet → ℕ
 count_left heap logs placed kind = sum_by (count_in heap logs placed kind) (range_with_len 0 (heap.seats + 1))
 
--- what is left of the logs, in some order, is legal behind what was placed
+-- what is left of the logs, in some order, is legal behind what was placed; and each log has few sets
 pub record IsCompletion (heap : Heap) (logs : List (List Entry)) (placed rest : List Entry) : Type 0 where
   pub legal : IsObjectLegal heap (placed ++ rest)
   pub kept : logs ≡ logs_of heap (placed ++ rest)
+  pub few : HaveFewSets logs
 
 -- what was placed is the first of a merge of the logs, and the rest is known
 pub record IsMerging (logs : List (List Entry)) (merger : Merger) : Type 0 where

@@ -14,18 +14,20 @@ pub record Leaves (n : ℕ) (old new : CollectorState) (last : Option Turn) : Ty
   pub answered : last ≡ last_made n new
   pub logged : length new.log ≤ length old.log + n
   pub spare : old.spare + length old.log ≤ new.spare + length new.log
+  pub no_more : new.spare ≤ old.spare
 
 -- no turns leave all as it was
 pub none_leaves : (old : CollectorState) → Leaves 0 old old None
-none_leaves old = record { counted = omega (arith); answered = refl; logged = omega (arith); spare = omega (arith) }
+none_leaves old = record { counted = omega (arith); answered = refl; logged = omega (arith); spare = omega (arith); no_more = omega (arith) }
 
--- one turn more leaves what it answered, and an entry more at most
-pub one_more_leaves : (n : ℕ) (old now new : CollectorState) (last : Option Turn) (turn : Turn) → Leaves n old now last → Turns now new turn → Leaves (n + 1) old new (Some turn)
-one_more_leaves n old now new last turn left one = record {
+-- one turn more, for which there is room, leaves what it answered, and an entry more at most
+pub one_more_leaves : (n : ℕ) (old now new : CollectorState) (last : Option Turn) (turn : Turn) → Leaves n old now last → Turns now new turn → 2 ≤ now.spare → Leaves (n + 1) old new (Some turn)
+one_more_leaves n old now new last turn left one room = record {
   counted = omega (arith, left.counted, one.counted);
   answered = rw (add-one n) (sym one.last);
   logged = omega (arith, left.logged, few_added now new turn one.comes_to);
   spare = omega (arith, left.spare, one.spare);
+  no_more = omega (arith, left.no_more, one.no_more room);
 }
 
 -- turns of which none waited, and one more

@@ -29,6 +29,7 @@ pub fn slack<C: CollectorCalls>(
     ensures last { result.last ≡ last_made result.made (C.state collector.new) }
     ensures entries { length (C.state collector.new).log ≤ length (C.state collector.old).log + result.made }
     ensures spare { (C.state collector.old).spare + length (C.state collector.old).log ≤ (C.state collector.new).spare + length (C.state collector.new).log }
+    ensures no_more { (C.state collector.new).spare ≤ (C.state collector.old).spare }
 {
     let asked = pace.turns(claimed);
     let mut last = None;

@@ -12,10 +12,12 @@ use Rattle.heap_model.specs.declared.command.Command.{Command}
 use Rattle.heap_model.specs.declared.command.Command.TheVariants as commands
 use Rattle.heap_model.specs.declared.reply.Reply.{Reply}
 use Rattle.heap_model.specs.declared.reply.Reply.TheVariants as replies
+use Rattle.heap_model.specs.declared.entry.Entry.{Entry}
+use Rattle.heap_model.specs.declared.entry.Entry.TheVariants as entries
 use Rattle.heap_model.specs.graph.Objects.{graph_seat, register_value, absent_graph_seat}
 use Rattle.heap_model.specs.graph.Graph.{Node, GraphSeat, Graph, fresh, unseen, unset}
 use Rattle.heap_model.specs.graph.Changes.{with_graph_seat, with_object_cell, write, set_cell, set_stamp}
-use Rattle.heap_model.specs.graph.Growth.{after_reply}
+use Rattle.heap_model.specs.graph.Growth.{after_entry, after_reply}
 
 -- what a seat's own entries alone decide
 pub record Own : Type 0 where
@@ -154,3 +156,16 @@ own-changed g number c within =
     own-write (seat_changed g number c) c.place c.index c.cell number
     ∙ ap own_of (get_or-set_same g.seats number (grown (graph_seat g number) c) absent_graph_seat within)
     ∙ ap (λ (n : ℕ). let o : Own = record { registers = c.registers; made = n; sets = c.sets; left = c.left } in o) (length-append (graph_seat g number).objects c.more)
+
+-- the seats stay the same number
+seats-write : (g : Graph) (value : Value) (i : ℕ) (cell : Cell) → length (write g value i cell).seats ≡ length g.seats
+seats-write g Nil i cell = refl
+seats-write g (Number n) i cell = refl
+seats-write g (Object Board) i cell = refl
+seats-write g (Object (Made number count)) i cell = length-set g.seats number _
+
+pub seat_count_after_entry : (g : Graph) (e : Entry) → length (after_entry g e).seats ≡ length g.seats
+seat_count_after_entry g (entries.Said number command reply) =
+    let c = change_of (own g number) number command reply in
+    ap (λ (h : Graph). length h.seats) (after_reply-changed g number command reply) ∙ seats-write (seat_changed g number c) c.place c.index c.cell ∙ length-set g.seats number _
+seat_count_after_entry g _ = refl

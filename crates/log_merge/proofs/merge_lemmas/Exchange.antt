@@ -22,6 +22,7 @@ use Rattle.log_merge.proofs.merge_lemmas.Places.{look, len, IsKnown, len-changed
 use Rattle.log_merge.proofs.merge_lemmas.Commuting.{changes_commute}
 use Rattle.log_merge.proofs.merge_lemmas.Sound.{IsSound}
 use Rattle.log_merge.proofs.merge_lemmas.SoundChanges.{call_changes_soundly}
+use Rattle.log_merge.proofs.merge_lemmas.FewSets.{AllFew}
 use Rattle.log_merge.proofs.merge_lemmas.Finding.{present_seat_is_there, IsSound-after, own_seat_stays_by_other, NoGets, changed_place_is_written, look_stays_by_other, changed_cell_is_written, IsGone, IsGone-after, IsGone-written, found_is_not_gone}
 use Rattle.log_merge.proofs.merge_lemmas.Touching.{Touches, Finds, set_cell_is_touched, gets_elsewhere, writes_elsewhere, touched_cell_is_found}
 
@@ -154,17 +155,17 @@ finds_after g a e value j t apart (inr writes) = inr (writes_elsewhere g (after_
 finds_after g a e value j t apart (inl gets) = inl (gets_elsewhere g (after_entry g a) e value j t (λ number is. others_own g a e number apart is) gets)
 
 -- behind others' entries too, it finds nothing that is gone
-never : (g : Graph) (front back : List Entry) (e : Entry) (value : Value) (j t : ℕ) → IsSound g → IsGone g value j t → AcceptsAll g (front ++ e ∷ back) → AllApart e front → Finds g e value j t → ⊥
-never g [] back e value j t sound gone accepts apart finds = found_is_not_gone g e value j t sound accepts.0 gone finds
-never g (a ∷ front) back e value j t sound gone accepts apart finds =
-    never (after_entry g a) front back e value j t (IsSound-after g a sound accepts.0) (IsGone-after g a value j t sound accepts.0 gone) accepts.1 apart.1 (finds_after g a e value j t apart.0 finds)
+never : (g : Graph) (front back : List Entry) (e : Entry) (value : Value) (j t : ℕ) → IsSound g → IsGone g value j t → AcceptsAll g (front ++ e ∷ back) → AllFew g (front ++ e ∷ back) → AllApart e front → Finds g e value j t → ⊥
+never g [] back e value j t sound gone accepts few apart finds = found_is_not_gone g e value j t sound accepts.0 gone finds
+never g (a ∷ front) back e value j t sound gone accepts few apart finds =
+    never (after_entry g a) front back e value j t (IsSound-after g a sound accepts.0) (IsGone-after g a value j t sound accepts.0 few.0 gone) accepts.1 few.1 apart.1 (finds_after g a e value j t apart.0 finds)
 
 -- an entry that may stand first and last sets in no other's way, nor is one set in its own
-undisturbed : (g : Graph) (a : Entry) (front back : List Entry) (e : Entry) → IsSound g → Accepts g e → Accepts g a → AcceptsAll (after_entry g a) (front ++ e ∷ back) → AllApart e (a ∷ front) → DoesntDisturb g a e
-undisturbed g a front back e sound accepts others rest apart = λ value j t writes touches.
+undisturbed : (g : Graph) (a : Entry) (front back : List Entry) (e : Entry) → IsSound g → Accepts g e → Accepts g a → AcceptsAll (after_entry g a) (front ++ e ∷ back) → AllFew g (a ∷ front ++ e ∷ back) → AllApart e (a ∷ front) → DoesntDisturb g a e
+undisturbed g a front back e sound accepts others rest few apart = λ value j t writes touches.
     let is = changed_cell_is_written g a value j t sound others writes in
     let finds : Finds g e value j t = subst (Finds g e value j) is.shown (touched_cell_is_found g e value j is.old accepts touches is.found) in
-    never (after_entry g a) front back e value j t (IsSound-after g a sound others) (IsGone-written g a value j t sound others writes) rest apart.1 (finds_after g a e value j t apart.0 finds)
+    never (after_entry g a) front back e value j t (IsSound-after g a sound others) (IsGone-written g a value j t sound others few.0 writes) rest few.1 apart.1 (finds_after g a e value j t apart.0 finds)
 
 disturbs_none : (g : Graph) (a e : Entry) (front : List Entry) → IsSound g → Accepts g e → Accepts g a → DoesntDisturb g a e → NoneIsDue g (a ∷ front) e → DoesntDisturb g e a
 disturbs_none g a e front sound accepts others calm due = λ value j t writes touches.
@@ -179,12 +180,12 @@ apart_too : (e a : Entry) → AreApart e a → AreApart a e
 apart_too e a apart = λ number is other. apart number other is
 
 -- so it may stand before them
-pub accepts_all_after_first : (g : Graph) (front back : List Entry) (e : Entry) → IsSound g → Accepts g e → NoneIsDue g front e → AllApart e front → AcceptsAll g (front ++ e ∷ back) → AcceptsAll (after_entry g e) (front ++ back)
-accepts_all_after_first g [] back e sound accepts due apart all = all.1
-accepts_all_after_first g (a ∷ front) back e sound accepts due apart all =
+pub accepts_all_after_first : (g : Graph) (front back : List Entry) (e : Entry) → IsSound g → Accepts g e → NoneIsDue g front e → AllApart e front → AcceptsAll g (front ++ e ∷ back) → AllFew g (front ++ e ∷ back) → AcceptsAll (after_entry g e) (front ++ back)
+accepts_all_after_first g [] back e sound accepts due apart all few = all.1
+accepts_all_after_first g (a ∷ front) back e sound accepts due apart all few =
     let h = after_entry g a in
-    let calm = undisturbed g a front back e sound accepts all.0 all.1 apart in
+    let calm = undisturbed g a front back e sound accepts all.0 all.1 few apart in
     let quiet = disturbs_none g a e front sound accepts all.0 calm due in
     let later = accepts_all_after_first h front back e (IsSound-after g a sound all.0) (accepts_after g a e sound accepts apart.0 calm)
-    (λ value j t writes. (due value j t (writes_before g a e value j t apart.0 writes)).1) apart.1 all.1 in
+    (λ value j t writes. (due value j t (writes_before g a e value j t apart.0 writes)).1) apart.1 all.1 few.1 in
     (accepts_after g e a sound all.0 (apart_too e a apart.0) quiet, subst (λ x. AcceptsAll x (front ++ back)) (same_graph g a e sound accepts all.0 apart.0 calm) later)

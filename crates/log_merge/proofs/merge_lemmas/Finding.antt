@@ -1,10 +1,10 @@
--- What entries find and write, and that a stamp which was replaced never comes back.
+-- What entries find and write, and that a stamp which was replaced doesn't come back where no seat uses up its stamps.
 use Rattle.std.proofs.Common.{◌≡◌, ℕ, ◌+◌, ◌<◌, ◌⊎◌, inl, inr, true, false, List, [], ◌∷◌, length, get_or, replicate, Some, Ok, refl, sym, ap, ◌∙◌, subst, arith}
 use Rattle.std.specs.List.{All}
 use Rattle.std.proofs.lemmas.Bool.{cases_lt, cases_eq}
 use Rattle.std.proofs.lemmas.List.{get_or_past, get_or-replicate, length-replicate}
 use Rattle.std.proofs.lemmas.List.Elements.{All-nil, All-cons, All-replicate}
-use Rattle.heap_model.specs.Limits.{stamp_limit, last_register}
+use Rattle.heap_model.specs.Limits.{last_register}
 use Rattle.heap_model.specs.Board.{board_fields}
 use Rattle.heap_model.specs.declared.heap.Heap.{Heap}
 use Rattle.heap_model.specs.declared.id.Id.{Id}
@@ -25,9 +25,10 @@ use Rattle.heap_model.specs.graph.Changes.{set_stamp}
 use Rattle.heap_model.specs.graph.Growth.{after_entry}
 use Rattle.heap_model.specs.graph.Legal.{Accepts, AcceptsAll, IsPresent}
 use Rattle.log_merge.specs.Merging.{IsGetOf, Writes}
-use Rattle.log_merge.proofs.merge_lemmas.Changes.{own, change_of, changed, with_set, after_reply-changed, own-changed_other}
+use Rattle.log_merge.proofs.merge_lemmas.Changes.{Own, own, change_of, changed, with_set, after_reply-changed, own-changed, own-changed_other, seat_count_after_entry}
 use Rattle.log_merge.proofs.merge_lemmas.Places.{look, IsKnown, found_look_is_known, values_equal_or_apart, look-changed_other, look-changed_same}
 use Rattle.log_merge.proofs.merge_lemmas.Sound.{IsOld, IsSoundCell, IsSound, AllOfSeat, AllCells-look, Grows, Grows-changed, all_holds_or_default, IsKnown-grows, IsOld-grows, IsSetAt, set_stands_at_cell, swap_stands_at_cell, cas_finds_its_cell, get_finds_its_cell}
+use Rattle.log_merge.proofs.merge_lemmas.FewSets.{HasFewSets, AllFew}
 use Rattle.log_merge.proofs.merge_lemmas.Touching.{Finds}
 use Rattle.log_merge.proofs.merge_lemmas.SoundChanges.{IsOld-none, call_changes_soundly, IsSound-changed}
 
@@ -133,11 +134,12 @@ pub record IsWritten (g : Graph) (e : Entry) (value : Value) (j t : ℕ) : Type 
   pub new : Cell
   pub left : look (after_entry g e) value j ≡ Ok new
   pub seat : ℕ
-  pub few : (own g seat).sets + 1 < stamp_limit
+  pub there : seat < length (after_entry g e).seats
+  pub counted : (own (after_entry g e) seat).sets ≡ (own g seat).sets + 1
   pub stamp : new.stamp ≡ set_stamp seat ((own g seat).sets + 1)
 
 module _ (g : Graph) (number r i v stamp : ℕ) (command : Command) (sets : change_of (own g number) number command (replies.Was stamp) ≡ with_set (own g number) number r i v)
-    (sound : IsSound g) (at : IsSetAt g number (register_value g number r) i stamp) where
+    (sound : IsSound g) (within : number < length g.seats) (at : IsSetAt g number (register_value g number r) i stamp) where
   abbrev its_entry : Entry
   its_entry = entries.Said number command (replies.Was stamp)
 
@@ -152,7 +154,8 @@ module _ (g : Graph) (number r i v stamp : ℕ) (command : Command) (sets : chan
         left = ap (λ h. look h (register_value g number r) i) (after_reply-changed g number command (replies.Was stamp) ∙ ap (changed g number) sets)
             ∙ look-changed_same g number c at.cell (sound.registers number r) at.found;
         seat = number;
-        few = at.few;
+        there = omega (arith, within, seat_count_after_entry g its_entry);
+        counted = ap (λ h. (own h number).sets) (after_reply-changed g number command (replies.Was stamp) ∙ ap (changed g number) sets) ∙ ap (λ (o : Own). o.sets) (own-changed g number c within);
         stamp = refl;
       }
 
@@ -162,12 +165,12 @@ module _ (g : Graph) (number r i v stamp : ℕ) (command : Command) (sets : chan
 
 pub changed_cell_is_written : (g : Graph) (e : Entry) (value : Value) (j t : ℕ) → IsSound g → Accepts g e → Writes g e value j t → IsWritten g e value j t
 changed_cell_is_written g (entries.Said number (commands.Set r i v) (replies.Was stamp)) value j t sound accepts writes =
-    written_there g number r i v stamp (commands.Set r i v) refl sound (set_stands_at_cell g number r i v stamp accepts.2) value j t writes
+    written_there g number r i v stamp (commands.Set r i v) refl sound (present_seat_is_there g number accepts.0) (set_stands_at_cell g number r i v stamp accepts.2) value j t writes
 changed_cell_is_written g (entries.Said number (commands.Cas r i a v) (replies.Was stamp)) value j t sound accepts writes =
-    written_there g number r i v stamp (commands.Cas r i a v) refl sound (swap_stands_at_cell g number r i a v stamp accepts.2) value j t writes
+    written_there g number r i v stamp (commands.Cas r i a v) refl sound (present_seat_is_there g number accepts.0) (swap_stands_at_cell g number r i a v stamp accepts.2) value j t writes
 changed_cell_is_written g _ value j t sound accepts writes = absurd writes
 
--- the cell is there, without this stamp, which no set will give again
+-- the cell is there, without this stamp, which no set will give again before its seat's stamps are used up
 pub record IsGone (g : Graph) (value : Value) (j t : ℕ) : Type 0 where
   pub known : IsKnown g value
   pub old : IsOld g t
@@ -176,35 +179,35 @@ pub record IsGone (g : Graph) (value : Value) (j t : ℕ) : Type 0 where
 ok_same : (g : Graph) (value : Value) (j : ℕ) (a b : Cell) → look g value j ≡ Ok a → look g value j ≡ Ok b → a.stamp ≡ b.stamp
 ok_same g value j a b one other = let same : a ≡ b = cc in ap (λ (c : Cell). c.stamp) same
 
--- a set leaves a stamp that is not old
-fresh_apart : (g : Graph) (e : Entry) (value : Value) (j was t : ℕ) → IsWritten g e value j was → IsOld g t → (cell : Cell) → look (after_entry g e) value j ≡ Ok cell → cell.stamp ≡ t → ⊥
-fresh_apart g e value j was t is old cell found same =
+-- a set leaves a stamp that is not old, where its seat's stamps aren't used up
+fresh_apart : (g : Graph) (e : Entry) (value : Value) (j was t : ℕ) → IsWritten g e value j was → HasFewSets (after_entry g e) → IsOld g t → (cell : Cell) → look (after_entry g e) value j ≡ Ok cell → cell.stamp ≡ t → ⊥
+fresh_apart g e value j was t is few old cell found same =
     let equal : is.new.stamp ≡ cell.stamp = ok_same (after_entry g e) value j is.new cell is.left found in
-    old is.seat ((own g is.seat).sets + 1) (omega arith) is.few (sym same ∙ sym equal ∙ is.stamp)
+    old is.seat ((own g is.seat).sets + 1) (omega arith) (let below = few is.seat is.there in omega (arith, below, is.counted)) (sym same ∙ sym equal ∙ is.stamp)
 
 -- what is gone stays so
-pub IsGone-after : (g : Graph) (e : Entry) (value : Value) (j t : ℕ) → IsSound g → Accepts g e → IsGone g value j t → IsGone (after_entry g e) value j t
-IsGone-after g e value j t sound accepts gone =
+pub IsGone-after : (g : Graph) (e : Entry) (value : Value) (j t : ℕ) → IsSound g → Accepts g e → HasFewSets (after_entry g e) → IsGone g value j t → IsGone (after_entry g e) value j t
+IsGone-after g e value j t sound accepts few gone =
     let grows = Grows-after g e sound accepts in
     record {
       known = IsKnown-grows g (after_entry g e) value grows gone.known;
       old = IsOld-grows g (after_entry g e) t grows gone.old;
       apart = elim (set_or_not g e value j) [
-        | inl set ↦ fresh_apart g e value j set.0 t (changed_cell_is_written g e value j set.0 sound accepts set.1) gone.old
+        | inl set ↦ fresh_apart g e value j set.0 t (changed_cell_is_written g e value j set.0 sound accepts set.1) few gone.old
         | inr none ↦ (λ cell found. gone.apart cell (sym (look_stays_by_other g e value j gone.known none) ∙ found))
       ];
     }
 
 -- what a set replaces is gone
-pub IsGone-written : (g : Graph) (e : Entry) (value : Value) (j t : ℕ) → IsSound g → Accepts g e → Writes g e value j t → IsGone (after_entry g e) value j t
-IsGone-written g e value j t sound accepts writes =
+pub IsGone-written : (g : Graph) (e : Entry) (value : Value) (j t : ℕ) → IsSound g → Accepts g e → HasFewSets (after_entry g e) → Writes g e value j t → IsGone (after_entry g e) value j t
+IsGone-written g e value j t sound accepts few writes =
     let is = changed_cell_is_written g e value j t sound accepts writes in
     let grows = Grows-after g e sound accepts in
     let old : IsOld g t = subst (IsOld g) is.shown (AllCells-look (IsSoundCell g) g value j is.old sound.cells is.found).1 in
     record {
       known = IsKnown-grows g (after_entry g e) value grows (found_look_is_known g value j is.old is.found);
       old = IsOld-grows g (after_entry g e) t grows old;
-      apart = fresh_apart g e value j t t is old;
+      apart = fresh_apart g e value j t t is few old;
     }
 
 -- what an accepted get, set or cas finds is there
@@ -223,9 +226,9 @@ finds_there g _ value j t sound accepts (inl gets) = absurd gets
 pub found_is_not_gone : (g : Graph) (e : Entry) (value : Value) (j t : ℕ) → IsSound g → Accepts g e → IsGone g value j t → Finds g e value j t → ⊥
 found_is_not_gone g e value j t sound accepts gone finds = (let there = finds_there g e value j t sound accepts finds in gone.apart there.0 there.1 there.2)
 
-pub NoGets-gone : (g : Graph) (rest : List Entry) (value : Value) (j t : ℕ) → IsSound g → AcceptsAll g rest → IsGone g value j t → NoGets g rest value j t
-NoGets-gone g [] value j t sound accepts gone = tt
-NoGets-gone g (a ∷ rest) value j t sound accepts gone = (
+pub NoGets-gone : (g : Graph) (rest : List Entry) (value : Value) (j t : ℕ) → IsSound g → AcceptsAll g rest → AllFew g rest → IsGone g value j t → NoGets g rest value j t
+NoGets-gone g [] value j t sound accepts few gone = tt
+NoGets-gone g (a ∷ rest) value j t sound accepts few gone = (
   (λ gets. found_is_not_gone g a value j t sound accepts.0 gone (inl gets)),
-  NoGets-gone (after_entry g a) rest value j t (IsSound-after g a sound accepts.0) accepts.1 (IsGone-after g a value j t sound accepts.0 gone),
+  NoGets-gone (after_entry g a) rest value j t (IsSound-after g a sound accepts.0) accepts.1 few.1 (IsGone-after g a value j t sound accepts.0 few.0 gone),
 )

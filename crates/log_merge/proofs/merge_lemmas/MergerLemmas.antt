@@ -18,6 +18,7 @@ use Rattle.heap_model.proofs.Histories.{graph_after-more}
 use Rattle.log_merge.specs.declared.merging.merger.Merger.{Merger}
 use Rattle.log_merge.specs.declared.merging.pending_gets.PendingGet.{PendingGet}
 use Rattle.log_merge.specs.declared.merging.pending_gets.PendingGets.{PendingGets}
+use Rattle.log_merge.specs.FewSets.{HaveFewSets}
 use Rattle.log_merge.specs.Merging.{HasOrder, part_of, left_of, IsReady, IsNext, IsFirstReady, TakesFirstReady}
 use Rattle.log_merge.specs.PendingGets.{is_kind, pending_count}
 use Rattle.log_merge.specs.Registers.{opening_registers, gets_in}
@@ -220,13 +221,13 @@ count_left-none heap logs kind long =
     let g = λ (n : ℕ). get_or logs n [] in
     sym (ap (sum_by f) (fill_by_all g logs (heap.seats + 1) [] long (λ k within. refl)) ∙ sum_by-map f g (range_with_len 0 (heap.seats + 1)))
 
-pub IsMerging-none : (logs : List (List Entry)) (m : Merger) → HasOrder m.heap logs → m.placed.items ≡ [] → m.graph ≡ opening m.heap → m.counts.items ≡ replicate (length logs) 0
+pub IsMerging-none : (logs : List (List Entry)) (m : Merger) → HasOrder m.heap logs → HaveFewSets logs → m.placed.items ≡ [] → m.graph ≡ opening m.heap → m.counts.items ≡ replicate (length logs) 0
     → ((kind : PendingGet) → pending_count m.pending kind ≡ sum_by (λ log. count_by (is_kind kind) (gets_in opening_registers log)) logs) → IsMerging logs m
-IsMerging-none logs m order none fresh counts pending =
+IsMerging-none logs m order few none fresh counts pending =
     let long : length logs ≡ m.heap.seats + 1 = ap length order.kept ∙ length-logs_of m.heap order.history in
     merging_after logs m m.heap [] refl none (record {
       rest = order.history;
-      completion = record { legal = order.legal; kept = order.kept };
+      completion = record { legal = order.legal; kept = order.kept; few = few };
       graph = fresh;
       counted = ap length counts ∙ length-replicate (length logs) 0;
       counts = λ number within. ap (λ xs. get_or xs number 0) counts ∙ get_or-replicate (length logs) number 0 0 within;

@@ -14,9 +14,10 @@ use Rattle.heap_model.specs.graph.Objects.{opening}
 use Rattle.heap_model.specs.graph.Legal.{AcceptsAll}
 use Rattle.log_merge.specs.Merging.{is_in_log, part_of, WaitsForNone, IsReady, IsNext}
 use Rattle.log_merge.specs.Placing.{IsCompletion}
+use Rattle.log_merge.proofs.merge_lemmas.FewSets.{AllFew}
 use Rattle.log_merge.proofs.merge_lemmas.Exchange.{AllApart, NoneIsDue, accepts_all_after_first}
 use Rattle.log_merge.proofs.merge_lemmas.Parts.{filter-yes, filter-no, no_more, parted_filter, seat_log_has_own_entries, collector_log_has_own_entries, part_of-collector, part_of-append, left_of-rest, filter-moved, is_of-seat_of}
-use Rattle.log_merge.proofs.merge_lemmas.Rests.{AcceptsAll-both, AcceptsAll-parts, no_gets_by_positions, placed_is_sound, recorded_get_is_pending, rest_is_accepted}
+use Rattle.log_merge.proofs.merge_lemmas.Rests.{AcceptsAll-both, AcceptsAll-parts, no_gets_by_positions, placed_is_sound, recorded_get_is_pending, rest_has_few_sets, rest_is_accepted}
 
 -- entries of other logs are other seats'
 two_seats : (heap : Heap) (number seat : ℕ) (e a : Entry) → is_in_log heap number e ≡ true → is_in_log heap number a ≡ false → seat_of e ≡ Some seat → seat_of a ≡ Some seat → ⊥
@@ -100,12 +101,14 @@ ready_stands_first heap logs placed rest number e completion within next ready =
     let due = none_is_due heap logs placed rest there.front there.back e number completion there.parted there.before ready.waits in
     let apart = all_apart heap number e there.front there.passes there.before in
     let all = subst (AcceptsAll g) there.parted (rest_is_accepted heap logs placed rest completion) in
-    let later = accepts_all_after_first g there.front there.back e (placed_is_sound heap logs placed rest completion) ready.accepted due apart all in
+    let few = subst (AllFew g) there.parted (rest_has_few_sets heap logs placed rest completion) in
+    let later = accepts_all_after_first g there.front there.back e (placed_is_sound heap logs placed rest completion) ready.accepted due apart all few in
     record {
       rest = there.front ++ there.back;
       completion = record {
         legal = AcceptsAll-both (opening heap) placed (e ∷ (there.front ++ there.back)) (AcceptsAll-parts (opening heap) placed rest completion.legal).0 (ready.accepted, later);
         kept = completion.kept ∙ ap (λ es. logs_of heap (placed ++ es)) there.parted ∙ logs_of-moved heap placed there.front there.back e number there.passes there.before;
+        few = completion.few;
       };
     }
 
@@ -114,4 +117,5 @@ pub completion_with_placed : (heap : Heap) (logs : List (List Entry)) (placed re
 completion_with_placed heap logs placed rest e completion = record {
   legal = subst (AcceptsAll (opening heap)) (sym (append_assoc placed (e ∷ []) rest)) completion.legal;
   kept = completion.kept ∙ ap (logs_of heap) (sym (append_assoc placed (e ∷ []) rest));
+  few = completion.few;
 }

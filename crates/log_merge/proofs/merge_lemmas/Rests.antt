@@ -1,14 +1,13 @@
 -- What is left of the logs has an order in which it is legal, and its first entry is ready.
-use Rattle.std.proofs.Common.{◌≡◌, ℕ, ◌<◌, inl, inr, true, false, List, [], ◌∷◌, ◌++◌, length, Some, is_none, refl, sym, ap, ◌∙◌, subst, arith, length-set}
+use Rattle.std.proofs.Common.{◌≡◌, ℕ, ◌+◌, ◌<◌, inl, inr, true, false, List, [], ◌∷◌, ◌++◌, get_or, length, Some, is_none, refl, sym, ap, ◌∙◌, subst, arith}
 use Rattle.std.specs.List.{filter}
 use Rattle.std.proofs.lemmas.Bool.{cases_lt, cases_Bool, eqb-true, eq-eqb, both_ways}
-use Rattle.std.proofs.lemmas.List.{length-replicate}
+use Rattle.std.proofs.lemmas.List.{get_or-replicate, length-replicate}
 use Rattle.std.proofs.lemmas.List.Sums.{fold-append}
+use Rattle.heap_model.specs.Limits.{stamp_limit}
+use Rattle.heap_model.specs.Logs.{logs_of}
 use Rattle.heap_model.specs.declared.heap.Heap.{Heap}
 use Rattle.heap_model.specs.declared.id.Value.{Value}
-use Rattle.heap_model.specs.declared.id.Value.TheVariants.{Nil, Number, Object}
-use Rattle.heap_model.specs.declared.id.Id.TheVariants.{Board, Made}
-use Rattle.heap_model.specs.declared.graph.cell.Cell.{Cell}
 use Rattle.heap_model.specs.declared.command.Command.{Command}
 use Rattle.heap_model.specs.declared.command.Command.TheVariants as commands
 use Rattle.heap_model.specs.declared.reply.Reply.{Reply}
@@ -18,18 +17,19 @@ use Rattle.heap_model.specs.declared.entry.Entry.TheVariants as entries
 use Rattle.heap_model.specs.account.Effects.{is_of}
 use Rattle.heap_model.specs.account.Noting.{seat_of}
 use Rattle.heap_model.specs.account.Cycles.{graph_of}
-use Rattle.heap_model.specs.graph.Objects.{opening}
-use Rattle.heap_model.specs.graph.Graph.{Graph, opening_graph_seat}
-use Rattle.heap_model.specs.graph.Changes.{write}
+use Rattle.heap_model.specs.graph.Objects.{absent_graph_seat, opening}
+use Rattle.heap_model.specs.graph.Graph.{Graph, GraphSeat, opening_graph_seat}
 use Rattle.heap_model.specs.graph.Growth.{after_entry, after_reply, graph_after}
 use Rattle.heap_model.specs.graph.Legal.{Accepts, AcceptsAll}
 use Rattle.log_merge.specs.Merging.{is_in_log, part_of, left_of, IsGetOf, Writes, HasGet, HasPendingGet, IsReady}
+use Rattle.log_merge.specs.FewSets.{set_count, HaveFewSets}
 use Rattle.log_merge.specs.Placing.{IsCompletion}
-use Rattle.log_merge.proofs.merge_lemmas.Changes.{own, own_after, change_of, seat_changed, after_reply-changed, own-changed}
+use Rattle.log_merge.proofs.merge_lemmas.Changes.{own, own_after, change_of, after_reply-changed, own-changed, seat_count_after_entry}
+use Rattle.log_merge.proofs.merge_lemmas.FewSets.{AllFew, AllFew-counted, AllFew-parts}
 use Rattle.log_merge.proofs.merge_lemmas.Sound.{IsSound}
 use Rattle.log_merge.proofs.merge_lemmas.Finding.{present_seat_is_there, IsSound-opening, IsSound-after, own_seat_stays_by_other, NoGets, IsGone-written, NoGets-gone}
 use Rattle.log_merge.proofs.merge_lemmas.Touching.{gets_elsewhere}
-use Rattle.log_merge.proofs.merge_lemmas.Parts.{filter-yes, filter-no, no_more, parted_filter, seat_log_has_own_entries, collector_log_has_own_entries, part_of-seat, part_of-append, left_of-rest, left_of-past, is_of-seat_of}
+use Rattle.log_merge.proofs.merge_lemmas.Parts.{filter-yes, filter-no, no_more, parted_filter, seat_log_has_own_entries, collector_log_has_own_entries, part_of-seat, part_of-append, length-logs_of, log_at, left_of-rest, left_of-past, is_of-seat_of}
 
 -- the entries before, and those behind
 pub AcceptsAll-parts : (g : Graph) (front back : List Entry) → AcceptsAll g (front ++ back) → AcceptsAll g front × AcceptsAll (graph_after g front) back
@@ -45,18 +45,6 @@ IsSound-history g [] sound accepts = sound
 IsSound-history g (e ∷ es) sound accepts = IsSound-history (after_entry g e) es (IsSound-after g e sound accepts.0) accepts.1
 
 -- the seats stay the same number
-seats-write : (g : Graph) (value : Value) (i : ℕ) (cell : Cell) → length (write g value i cell).seats ≡ length g.seats
-seats-write g Nil i cell = refl
-seats-write g (Number n) i cell = refl
-seats-write g (Object Board) i cell = refl
-seats-write g (Object (Made number count)) i cell = length-set g.seats number _
-
-pub seat_count_after_entry : (g : Graph) (e : Entry) → length (after_entry g e).seats ≡ length g.seats
-seat_count_after_entry g (entries.Said number command reply) =
-    let c = change_of (own g number) number command reply in
-    ap (λ (h : Graph). length h.seats) (after_reply-changed g number command reply) ∙ seats-write (seat_changed g number c) c.place c.index c.cell ∙ length-set g.seats number _
-seat_count_after_entry g _ = refl
-
 pub seat_count_after_history : (g : Graph) (es : List Entry) → length (graph_after g es).seats ≡ length g.seats
 seat_count_after_history g [] = refl
 seat_count_after_history g (e ∷ es) = seat_count_after_history (after_entry g e) es ∙ seat_count_after_entry g e
@@ -107,6 +95,22 @@ rest_is_accepted heap logs placed rest completion = (AcceptsAll-parts (opening h
 
 pub placed_is_sound : (heap : Heap) (logs : List (List Entry)) (placed rest : List Entry) → IsCompletion heap logs placed rest → IsSound (graph_of heap placed)
 placed_is_sound heap logs placed rest completion = IsSound-history (opening heap) placed (IsSound-opening heap) (AcceptsAll-parts (opening heap) placed rest completion.legal).0
+
+-- the sets of each seat are those of its log
+log_has_few_sets : (heap : Heap) (logs : List (List Entry)) (history : List Entry) (number : ℕ) → HaveFewSets logs → logs ≡ logs_of heap history → number < heap.seats → set_count (filter (is_of number) history) < stamp_limit
+log_has_few_sets heap logs history number few kept within =
+    let log = log_at heap history number (omega arith) ∙ part_of-seat heap number history within in
+    let all : set_count (get_or (logs_of heap history) number []) < stamp_limit =
+    subst (λ ls. set_count (get_or ls number []) < stamp_limit) kept (few number [] (omega (arith, within, ap length kept, length-logs_of heap history))) in
+    omega (arith, all, ap set_count log)
+
+pub rest_has_few_sets : (heap : Heap) (logs : List (List Entry)) (placed rest : List Entry) → IsCompletion heap logs placed rest → AllFew (graph_of heap placed) rest
+rest_has_few_sets heap logs placed rest completion =
+    let few : (number : ℕ) → number < length (opening heap).seats → (own (opening heap) number).sets + set_count (filter (is_of number) (placed ++ rest)) < stamp_limit = λ number there.
+    let within : number < heap.seats = omega (arith, there, seat_count_at_opening heap) in
+    let none = ap (λ (s : GraphSeat). s.sets) (get_or-replicate heap.seats number opening_graph_seat absent_graph_seat within) in
+    omega (arith, none, log_has_few_sets heap logs (placed ++ rest) number completion.few completion.kept within) in
+    AllFew-parts (opening heap) placed rest (AllFew-counted (opening heap) (placed ++ rest) few)
 
 -- gets by their positions
 pub no_gets_by_positions : (g : Graph) (es : List Entry) (value : Value) (j t : ℕ) → ((front back : List Entry) (x : Entry) → es ≡ front ++ x ∷ back → IsGetOf (graph_after g front) x value j t → ⊥) → NoGets g es value j t
@@ -193,9 +197,10 @@ pub first_replaces_no_pending : (heap : Heap) (logs : List (List Entry)) (placed
 first_replaces_no_pending heap logs placed rest e other value j t completion writes has =
     let g = graph_of heap placed in
     let accepts = rest_is_accepted heap logs placed (e ∷ rest) completion in
+    let few = rest_has_few_sets heap logs placed (e ∷ rest) completion in
     let sound = placed_is_sound heap logs placed (e ∷ rest) completion in
     get_in_rest heap logs placed (e ∷ rest) other value j t completion has
-    (sets_get_none g e value j t writes, NoGets-gone (after_entry g e) rest value j t (IsSound-after g e sound accepts.0) accepts.1 (IsGone-written g e value j t sound accepts.0 writes))
+    (sets_get_none g e value j t writes, NoGets-gone (after_entry g e) rest value j t (IsSound-after g e sound accepts.0) accepts.1 few.1 (IsGone-written g e value j t sound accepts.0 few.0 writes))
   where
     sets_get_none : (g : Graph) (e : Entry) (value : Value) (j t : ℕ) → Writes g e value j t → IsGetOf g e value j t → ⊥
     sets_get_none g (entries.Said number (commands.Set r i v) (replies.Was stamp)) value j t writes gets = gets

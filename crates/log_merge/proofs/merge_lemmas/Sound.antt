@@ -1,5 +1,5 @@
 -- In a graph that is sound nothing refers to what was not made yet, and no stamp is that of a set to come.
-use Rattle.std.proofs.Common.{◌≡◌, ℕ, ◌+◌, ◌<◌, ◌≤◌, inl, inr, false, List, length, get_or, slice_get, Option, Some, None, Result, Ok, Err, refl, sym, ap, subst, arith}
+use Rattle.std.proofs.Common.{◌≡◌, ℕ, ◌<◌, ◌≤◌, inl, inr, false, List, length, get_or, slice_get, Option, Some, None, Result, Ok, Err, refl, sym, ap, subst, arith}
 use Rattle.std.specs.List.{All}
 use Rattle.std.proofs.lemmas.Bool.{cases_lt, cases_eq}
 use Rattle.std.proofs.lemmas.List.{get_or_past}
@@ -136,20 +136,19 @@ pub record IsSetAt (g : Graph) (number : ℕ) (value : Value) (i stamp : ℕ) : 
   pub cell : Cell
   pub found : look g value i ≡ Ok cell
   pub shown : cell.stamp ≡ stamp
-  pub few : (own g number).sets + 1 < stamp_limit
 
-cell_set : (c : Option Cell) (sets stamp : ℕ) → Sets sets (or_no_field c) (replies.Was stamp) → (cell : Cell) × (or_no_field c ≡ Ok cell) × (cell.stamp ≡ stamp) × (sets + 1 < stamp_limit)
+cell_set : (c : Option Cell) (sets stamp : ℕ) → Sets sets (or_no_field c) (replies.Was stamp) → (cell : Cell) × (or_no_field c ≡ Ok cell) × (cell.stamp ≡ stamp)
 cell_set None sets stamp says = absurd (let e : replies.Was stamp ≡ replies.NoField = says in cc)
-cell_set (Some cell) sets stamp says = (let e : replies.Was stamp ≡ replies.Was cell.stamp = says.0 in (cell, refl, cc, says.1))
+cell_set (Some cell) sets stamp says = (let e : replies.Was stamp ≡ replies.Was cell.stamp = says.0 in (cell, refl, cc))
 
-node_set : (o : Option Node) (i sets stamp : ℕ) → Sets sets (cell_or_refusal o i) (replies.Was stamp) → (cell : Cell) × (cell_or_refusal o i ≡ Ok cell) × (cell.stamp ≡ stamp) × (sets + 1 < stamp_limit)
+node_set : (o : Option Node) (i sets stamp : ℕ) → Sets sets (cell_or_refusal o i) (replies.Was stamp) → (cell : Cell) × (cell_or_refusal o i ≡ Ok cell) × (cell.stamp ≡ stamp)
 node_set None i sets stamp says = absurd (let e : replies.Was stamp ≡ replies.NoObject = says in cc)
 node_set (Some n) i sets stamp says = cell_set (slice_get n.cells i) sets stamp says
 
 pub set_stands_at_cell : (g : Graph) (number r i v stamp : ℕ) → Says g number (commands.Set r i v) (replies.Was stamp) → IsSetAt g number (register_value g number r) i stamp
 set_stands_at_cell g number r i v stamp says =
     let all = node_set (target_node g (register_value g number r)) i (own g number).sets stamp says in
-    record { cell = all.0; found = all.1; shown = all.2; few = all.3 }
+    record { cell = all.0; found = all.1; shown = all.2 }
 
 -- and a cas that swapped: it stands where a set would
 swap_is_set : (sets stamp : ℕ) (seen : Cell) (found : Result Cell Reply) → Swaps sets seen found (replies.Was stamp) → Sets sets found (replies.Was stamp)

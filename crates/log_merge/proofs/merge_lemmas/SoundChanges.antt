@@ -4,7 +4,7 @@ use Rattle.std.specs.List.{All}
 use Rattle.std.proofs.lemmas.Bool.{cases_lt, cases_eq, cases_order}
 use Rattle.std.proofs.lemmas.List.{get_or-set_same, get_or-set_other, set_past}
 use Rattle.std.proofs.lemmas.List.Elements.{All-nil, All-cons, All-weaker, All-replicate}
-use Rattle.heap_model.specs.Limits.{stamp_limit, register_count}
+use Rattle.heap_model.specs.Limits.{register_count}
 use Rattle.heap_model.specs.declared.id.Id.TheVariants.{Made}
 use Rattle.heap_model.specs.declared.id.Value.TheVariants.{Nil, Number, Object}
 use Rattle.heap_model.specs.declared.graph.cell.Cell.{Cell}
@@ -18,7 +18,7 @@ use Rattle.heap_model.specs.graph.Graph.{Node, Graph, fresh, unseen, unset}
 use Rattle.heap_model.specs.graph.Changes.{set_stamp}
 use Rattle.log_merge.proofs.merge_lemmas.Changes.{Own, own, Change, with_object, with_set, change_of, seat_changed, changed, own-changed, own-changed_other}
 use Rattle.log_merge.proofs.merge_lemmas.Places.{IsKnown}
-use Rattle.log_merge.proofs.merge_lemmas.Sound.{AllCells, AllCells-look, AllCells-seat_changed, AllCells-weaker, AllCells-write, Grows, Grows-changed, IsKnown-grows, IsOld, IsOld-grows, IsSound, IsSoundCell, get_finds_its_cell, all_holds_or_default, set_stands_at_cell, swap_stands_at_cell}
+use Rattle.log_merge.proofs.merge_lemmas.Sound.{AllCells, AllCells-look, AllCells-seat_changed, AllCells-weaker, AllCells-write, Grows, Grows-changed, IsKnown-grows, IsOld, IsOld-grows, IsSound, IsSoundCell, get_finds_its_cell, all_holds_or_default}
 
 -- a change that keeps the graph sound
 pub record IsSoundChange (g : Graph) (number : ℕ) (c : Change) : Type 0 where
@@ -32,10 +32,10 @@ pub record IsSoundChange (g : Graph) (number : ℕ) (c : Change) : Type 0 where
 pub IsOld-none : (g : Graph) → IsOld g 0
 IsOld-none g = λ seat n later few is. omega (arith, is)
 
-IsOld-stamp : (g : Graph) (number sets : ℕ) → (own g number).sets ≡ sets → sets < stamp_limit → IsOld g (set_stamp number sets)
-IsOld-stamp g number sets is few = λ seat n later below same. elim (cases_order seat number) [
-  | inl equal ↦ (let mine : (own g number).sets < n = subst (λ s. (own g s).sets < n) equal later in omega (arith, mine, is, same, equal))
-  | inr apart ↦ elim apart [ inl before ↦ omega (arith, before, same, few, below) | inr behind ↦ omega (arith, behind, same, few, below) ]
+IsOld-stamp : (g : Graph) (number sets : ℕ) → (own g number).sets ≡ sets → IsOld g (set_stamp number sets)
+IsOld-stamp g number sets is = λ seat n later below same. elim (cases_order seat number) [
+  | inl equal ↦ (let mine : (own g number).sets < n = subst (λ s. (own g s).sets < n) equal later in omega (arith, mine, is, same, equal, below))
+  | inr apart ↦ elim apart [ inl before ↦ omega (arith, before, same) | inr behind ↦ omega (arith, behind, same) ]
 ]
 
 -- a sound value in a register
@@ -79,8 +79,8 @@ made_change g number d array cells within known =
     }
 
 -- a cell is set
-set_change : (g : Graph) (number r i v : ℕ) → number < length g.seats → ((q : ℕ) → IsKnown g (register_value g number q)) → (own g number).sets + 1 < stamp_limit → IsSoundChange g number (with_set (own g number) number r i v)
-set_change g number r i v within known few =
+set_change : (g : Graph) (number r i v : ℕ) → number < length g.seats → ((q : ℕ) → IsKnown g (register_value g number q)) → IsSoundChange g number (with_set (own g number) number r i v)
+set_change g number r i v within known =
     let c = with_set (own g number) number r i v in
     let h = changed g number c in
     let grows : Grows g h = Grows-changed g number c within (omega arith) in
@@ -89,7 +89,7 @@ set_change g number r i v within known few =
       more = All-nil (λ (o : Node). All (λ (cell : Cell). cell ≡ unset) o.cells);
       sets = omega arith;
       place = known r;
-      cell = (IsKnown-grows g h (register_value g number v) grows (known v), IsOld-stamp h number ((own g number).sets + 1) (ap (λ (o : Own). o.sets) (own-changed g number c within)) few);
+      cell = (IsKnown-grows g h (register_value g number v) grows (known v), IsOld-stamp h number ((own g number).sets + 1) (ap (λ (o : Own). o.sets) (own-changed g number c within)));
     }
 
 -- registers that are nil
@@ -105,9 +105,8 @@ call_changes_soundly g number (commands.Get d r i) (replies.Got value stamp) sou
     let known : IsKnown g value = subst (IsKnown g) got.2 (AllCells-look (IsSoundCell g) g (register_value g number r) i got.0 sound.cells got.1).0 in
     let cell : Cell = record { value = value; stamp = stamp } in
     quiet_change g number (set (own g number).registers d cell) (own g number).left within (set_known g (own g number).registers d cell (sound.registers number) known)
-call_changes_soundly g number (commands.Set r i v) (replies.Was stamp) sound within says = set_change g number r i v within (sound.registers number) (set_stands_at_cell g number r i v stamp says).few
-call_changes_soundly g number (commands.Cas r i a v) (replies.Was stamp) sound within says =
-    set_change g number r i v within (sound.registers number) (swap_stands_at_cell g number r i a v stamp says).few
+call_changes_soundly g number (commands.Set r i v) (replies.Was stamp) sound within says = set_change g number r i v within (sound.registers number)
+call_changes_soundly g number (commands.Cas r i a v) (replies.Was stamp) sound within says = set_change g number r i v within (sound.registers number)
 call_changes_soundly g number (commands.Num d n) reply sound within says =
     quiet_change g number (set (own g number).registers d (unseen (Number n))) (own g number).left within (set_known g (own g number).registers d (unseen (Number n)) (sound.registers number) tt)
 call_changes_soundly g number (commands.Nil d) reply sound within says =

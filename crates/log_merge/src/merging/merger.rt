@@ -5,6 +5,7 @@ ghost use Rattle.heap_model.specs.Command.{IsRegister};
 ghost use Rattle.heap_model.specs.Logs.{logs_of};
 ghost use Rattle.heap_model.specs.graph.Objects.{register_value};
 ghost use Rattle.heap_model.specs.graph.Legal.{Accepts, IsObjectLegal};
+ghost use Rattle.log_merge.specs.FewSets.{HaveFewSets};
 ghost use Rattle.log_merge.specs.Merging.{HasOrder, IsNext, TakesFirstReady};
 
 use crate::merging::pending_gets::{PendingGet, PendingGets, kind_of};
@@ -42,6 +43,7 @@ impl Merger {
     pub fn new(alloc: Global, logs: &[Vec<Entry>], heap: Heap) -> Result<Merger, Memory>
         requires heap { IsHeap heap }
         requires order { HasOrder heap (map (λ log. log.items) logs.now) }
+        requires few { HaveFewSets (map (λ log. log.items) logs.now) }
         ensures heap { IfOk result (λ merger. merger.heap ≡ heap) }
         ensures merging { IfOk result (λ merger. IsMerging (map (λ log. log.items) logs.now) merger) }
     {

@@ -27,19 +27,19 @@ pub returns-in-Waits-clause-made : goal.returns-in-Waits-clause-made
 returns-in-Waits-clause-made g c = onward_is_each Turns _ _ _ _ _ c.loop-made.invariant.1 c.turn-turn.ensures.turns
 
 pub returns-in-Waits-clause-counted : goal.returns-in-Waits-clause-counted
-returns-in-Waits-clause-counted g c = (one_more_leaves _ _ _ _ _ _ c.loop-made.invariant.2 c.turn-turn.ensures.turns).counted
+returns-in-Waits-clause-counted g c = (one_more_leaves _ _ _ _ _ _ c.loop-made.invariant.2 c.turn-turn.ensures.turns (omega (arith, c.requires, c.loop-made.invariant.2.logged, c.loop-made.invariant.2.spare, c.loop-made-test.true, c.turns-asked.ensures.1))).counted
 
 pub returns-in-Waits-clause-last : goal.returns-in-Waits-clause-last
-returns-in-Waits-clause-last g c = (one_more_leaves _ _ _ _ _ _ c.loop-made.invariant.2 c.turn-turn.ensures.turns).answered
+returns-in-Waits-clause-last g c = (one_more_leaves _ _ _ _ _ _ c.loop-made.invariant.2 c.turn-turn.ensures.turns (omega (arith, c.requires, c.loop-made.invariant.2.logged, c.loop-made.invariant.2.spare, c.loop-made-test.true, c.turns-asked.ensures.1))).answered
 
 pub returns-in-Waits-clause-entries : goal.returns-in-Waits-clause-entries
-returns-in-Waits-clause-entries g c = (one_more_leaves _ _ _ _ _ _ c.loop-made.invariant.2 c.turn-turn.ensures.turns).logged
+returns-in-Waits-clause-entries g c = (one_more_leaves _ _ _ _ _ _ c.loop-made.invariant.2 c.turn-turn.ensures.turns (omega (arith, c.requires, c.loop-made.invariant.2.logged, c.loop-made.invariant.2.spare, c.loop-made-test.true, c.turns-asked.ensures.1))).logged
 
 pub returns-in-Waits-clause-spare : goal.returns-in-Waits-clause-spare
-returns-in-Waits-clause-spare g c = (one_more_leaves _ _ _ _ _ _ c.loop-made.invariant.2 c.turn-turn.ensures.turns).spare
+returns-in-Waits-clause-spare g c = (one_more_leaves _ _ _ _ _ _ c.loop-made.invariant.2 c.turn-turn.ensures.turns (omega (arith, c.requires, c.loop-made.invariant.2.logged, c.loop-made.invariant.2.spare, c.loop-made-test.true, c.turns-asked.ensures.1))).spare
 
 pub loop-made-preserved : goal.loop-made-preserved
-loop-made-preserved g c = (goes_onward _ _ _ _ _ _ c.loop-made.invariant.0 c.turn-turn.ensures.turned (unless_it_waits _ c.in_default.not-Waits), goes_onward Turns _ _ _ _ _ c.loop-made.invariant.1 c.turn-turn.ensures.turns (unless_it_waits _ c.in_default.not-Waits), one_more_leaves _ _ _ _ _ _ c.loop-made.invariant.2 c.turn-turn.ensures.turns)
+loop-made-preserved g c = (goes_onward _ _ _ _ _ _ c.loop-made.invariant.0 c.turn-turn.ensures.turned (unless_it_waits _ c.in_default.not-Waits), goes_onward Turns _ _ _ _ _ c.loop-made.invariant.1 c.turn-turn.ensures.turns (unless_it_waits _ c.in_default.not-Waits), one_more_leaves _ _ _ _ _ _ c.loop-made.invariant.2 c.turn-turn.ensures.turns (omega (arith, c.requires, c.loop-made.invariant.2.logged, c.loop-made.invariant.2.spare, c.loop-made-test.true, c.turns-asked.ensures.1)))
 
 pub returns-clause-each : goal.returns-clause-each
 returns-clause-each g c = each_is_asked _ _ _ c.loop-made.auto.made-end c.loop-made-test.false c.loop-made.invariant.0
@@ -61,3 +61,9 @@ returns-clause-entries g c = (all_leave c.loop-made.auto.made-end c.loop-made-te
 
 pub returns-clause-spare : goal.returns-clause-spare
 returns-clause-spare g c = c.loop-made.invariant.2.spare
+
+pub returns-in-Waits-clause-no_more : goal.returns-in-Waits-clause-no_more
+returns-in-Waits-clause-no_more g c = (one_more_leaves _ _ _ _ _ _ c.loop-made.invariant.2 c.turn-turn.ensures.turns (omega (arith, c.requires, c.loop-made.invariant.2.logged, c.loop-made.invariant.2.spare, c.loop-made-test.true, c.turns-asked.ensures.1))).no_more
+
+pub returns-clause-no_more : goal.returns-clause-no_more
+returns-clause-no_more g c = c.loop-made.invariant.2.no_more

@@ -12,10 +12,10 @@ use Rattle.heap_record.proofs.recorder.Recorder.call.Goals as goal
 use Rattle.heap_record.proofs.recorder.Recorder.call.Goals.{After-play_call-reply, After-note_since}
 
 -- the machine's call
-facts : (g : Over) (c : After-play_call-reply g) → CallFacts (the_view (param 0 g.row.L) g.L.Entries c.self.inside) c.room.new.self c.play_call-reply.new.self c.args.seat c.args.command.now c.play_call-reply.result
+facts : (g : Over) (c : After-play_call-reply g) → CallFacts (the_view (param 0 g.row.L) g.L.ShowsRecent g.L.Entries c.self.inside) c.room.new.self c.play_call-reply.new.self c.args.seat c.args.command.now c.play_call-reply.result
 facts g c =
     let calls = c.play_call-reply.ensures in
-    call_facts c.law_every_run.ensures.run c.seat_laws.ensures.short (the_view (param 0 g.row.L) g.L.Entries c.self.inside) c.room.new.self c.play_call-reply.new.self c.args.seat c.args.command.now c.play_call-reply.result c.self.invariant.0
+    call_facts c.law_every_run.ensures.run c.seat_laws.ensures.short (the_view (param 0 g.row.L) g.L.ShowsRecent g.L.Entries c.self.inside) c.room.new.self c.play_call-reply.new.self c.args.seat c.args.command.now c.play_call-reply.result c.self.invariant.0
     c.room.ensures.same c.room.ensures.others calls.steps calls.counts calls.answer calls.array calls.leave calls.refused calls.spent
 
 -- what the machine showed before
@@ -24,13 +24,13 @@ remembers g c = record { recent = c.recent-before.ensures.recent; within = c.rec
 
 -- what contracts see once it was noted
 abbrev after : (g : Over) → After-note_since g → Recorded
-after g c = record (the_view (param 0 g.row.L) g.L.Entries c.self.inside) { machine = c.note_since.new.machine; history = without_turned c.note_since.new.list.items; listed = c.note_since.new.list.items; spare = c.note_since.new.spare }
+after g c = record (the_view (param 0 g.row.L) g.L.ShowsRecent g.L.Entries c.self.inside) { machine = c.note_since.new.machine; history = without_turned c.note_since.new.list.items; listed = c.note_since.new.list.items; spare = c.note_since.new.spare }
 
 -- it was noted
-noted : (g : Over) (c : After-note_since g) → Remembers c.room.new.self c.play_call-reply.new.self c.args.seat c.recent-before.result.now → CallFacts (the_view (param 0 g.row.L) g.L.Entries c.self.inside) c.room.new.self c.play_call-reply.new.self c.args.seat c.args.command.now c.play_call-reply.result
-    → AddsTold (the_view (param 0 g.row.L) g.L.Entries c.self.inside) (after g c) (since c.room.new.self c.play_call-reply.new.self c.args.seat)
+noted : (g : Over) (c : After-note_since g) → Remembers c.room.new.self c.play_call-reply.new.self c.args.seat c.recent-before.result.now → CallFacts (the_view (param 0 g.row.L) g.L.ShowsRecent g.L.Entries c.self.inside) c.room.new.self c.play_call-reply.new.self c.args.seat c.args.command.now c.play_call-reply.result
+    → AddsTold (the_view (param 0 g.row.L) g.L.ShowsRecent g.L.Entries c.self.inside) (after g c) (since c.room.new.self c.play_call-reply.new.self c.args.seat)
 noted g c before made =
-    let old : Recorded = the_view (param 0 g.row.L) g.L.Entries c.self.inside in
+    let old : Recorded = the_view (param 0 g.row.L) g.L.ShowsRecent g.L.Entries c.self.inside in
     let one = c.room.new.self in
     let two = c.play_call-reply.new.self in
     let listed = noted_list_grows_by_since old one two c.args.seat c.recent-before.result.now c.reserve.new.self.items c.note_since.new.list.items before c.note_since.ensures.items c.reserve.ensures.items in
@@ -44,10 +44,10 @@ noted g c before made =
     }
 
 -- so it is what contracts say of it
-makes : (g : Over) (c : After-note_since g) → Remembers c.room.new.self c.play_call-reply.new.self c.args.seat c.recent-before.result.now → CallFacts (the_view (param 0 g.row.L) g.L.Entries c.self.inside) c.room.new.self c.play_call-reply.new.self c.args.seat c.args.command.now c.play_call-reply.result
-    → MakesCall (the_view (param 0 g.row.L) g.L.Entries c.self.inside) (after g c) c.args.seat c.args.command.now c.play_call-reply.result
+makes : (g : Over) (c : After-note_since g) → Remembers c.room.new.self c.play_call-reply.new.self c.args.seat c.recent-before.result.now → CallFacts (the_view (param 0 g.row.L) g.L.ShowsRecent g.L.Entries c.self.inside) c.room.new.self c.play_call-reply.new.self c.args.seat c.args.command.now c.play_call-reply.result
+    → MakesCall (the_view (param 0 g.row.L) g.L.ShowsRecent g.L.Entries c.self.inside) (after g c) c.args.seat c.args.command.now c.play_call-reply.result
 makes g c before made =
-    call_is_made (the_view (param 0 g.row.L) g.L.Entries c.self.inside) (after g c) c.room.new.self c.play_call-reply.new.self c.args.seat c.args.command.now c.play_call-reply.result made (noted g c before made)
+    call_is_made (the_view (param 0 g.row.L) g.L.ShowsRecent g.L.Entries c.self.inside) (after g c) c.room.new.self c.play_call-reply.new.self c.args.seat c.args.command.now c.play_call-reply.result made (noted g c before made)
     (ap (λ (m : MachineValue). m.state) c.note_since.ensures.same)
 
 pub note_since-requires-clause-longer : goal.note_since-requires-clause-longer
@@ -67,8 +67,8 @@ invariant_of-self-2 g c =
     let made = facts g here.After-play_call-reply in
     let after_note = here.After-note_since in
     let told = c.note_since.ensures in
-    let own = collector_room_stays (the_view (param 0 g.row.L) g.L.Entries c.self.inside) c.play_call-reply.new.self c.note_since.new.machine c.args.seat made.within made.own_room told.same told.others in (
-      events_lead_on_by_call AnyEvents (the_view (param 0 g.row.L) g.L.Entries c.self.inside) (after g after_note) c.self.invariant.0 c.args.seat c.args.command.now c.play_call-reply.result (makes g after_note (remembers g here.After-play_call-reply) made) tt,
+    let own = collector_room_stays (the_view (param 0 g.row.L) g.L.ShowsRecent g.L.Entries c.self.inside) c.play_call-reply.new.self c.note_since.new.machine c.args.seat made.within made.own_room told.same told.others in (
+      events_lead_on_by_call AnyEvents (the_view (param 0 g.row.L) g.L.ShowsRecent g.L.Entries c.self.inside) (after g after_note) c.self.invariant.0 c.args.seat c.args.command.now c.play_call-reply.result (makes g after_note (remembers g here.After-play_call-reply) made) tt,
       record {
         own_room = omega (arith, own, c.self.invariant.1.own_room, told.left);
         listed_room = omega (arith, c.self.invariant.1.listed_room, told.left, told.capacity, told.len, c.in_ok-reserve.ensures.capacity, c.in_ok-reserve.ensures.len);

@@ -14,8 +14,8 @@ use Rattle.heap_record.proofs.recorder.Recorder.inner.Goals as goal
 use Rattle.heap_record.proofs.recorder.Recorder.inner.Goals.{After-play_inner, After-note_since}
 
 -- the machine's inner call
-facts : (g : Over) (c : After-play_inner g) → InnerFacts (the_view (param 0 g.row.L) g.L.Entries c.self.inside) c.room.new.self c.play_inner.new.self c.args.seat c.args.inner
-facts g c = inner_facts (the_view (param 0 g.row.L) g.L.Entries c.self.inside) c.room.new.self c.play_inner.new.self c.args.seat c.args.inner c.room.ensures.same c.room.ensures.others c.play_inner.ensures.plays c.play_inner.ensures.spent
+facts : (g : Over) (c : After-play_inner g) → InnerFacts (the_view (param 0 g.row.L) g.L.ShowsRecent g.L.Entries c.self.inside) c.room.new.self c.play_inner.new.self c.args.seat c.args.inner
+facts g c = inner_facts (the_view (param 0 g.row.L) g.L.ShowsRecent g.L.Entries c.self.inside) c.room.new.self c.play_inner.new.self c.args.seat c.args.inner c.room.ensures.same c.room.ensures.others c.play_inner.ensures.plays c.play_inner.ensures.spent
 
 -- what the machine showed before
 remembers : (g : Over) (c : After-play_inner g) → Remembers c.room.new.self c.play_inner.new.self c.args.seat c.recent-before.result.now
@@ -23,12 +23,12 @@ remembers g c = record { recent = c.recent-before.ensures.recent; within = c.rec
 
 -- what contracts see once it was noted
 abbrev after : (g : Over) → After-note_since g → Recorded
-after g c = record (the_view (param 0 g.row.L) g.L.Entries c.self.inside) { machine = c.note_since.new.machine; history = without_turned c.note_since.new.list.items; listed = c.note_since.new.list.items; spare = c.note_since.new.spare }
+after g c = record (the_view (param 0 g.row.L) g.L.ShowsRecent g.L.Entries c.self.inside) { machine = c.note_since.new.machine; history = without_turned c.note_since.new.list.items; listed = c.note_since.new.list.items; spare = c.note_since.new.spare }
 
 -- so it is what contracts say of it
-makes : (g : Over) (c : After-note_since g) → Remembers c.room.new.self c.play_inner.new.self c.args.seat c.recent-before.result.now → InnerFacts (the_view (param 0 g.row.L) g.L.Entries c.self.inside) c.room.new.self c.play_inner.new.self c.args.seat c.args.inner → MakesInner (the_view (param 0 g.row.L) g.L.Entries c.self.inside) (after g c) c.args.seat c.args.inner
+makes : (g : Over) (c : After-note_since g) → Remembers c.room.new.self c.play_inner.new.self c.args.seat c.recent-before.result.now → InnerFacts (the_view (param 0 g.row.L) g.L.ShowsRecent g.L.Entries c.self.inside) c.room.new.self c.play_inner.new.self c.args.seat c.args.inner → MakesInner (the_view (param 0 g.row.L) g.L.ShowsRecent g.L.Entries c.self.inside) (after g c) c.args.seat c.args.inner
 makes g c before made =
-    let old : Recorded = the_view (param 0 g.row.L) g.L.Entries c.self.inside in
+    let old : Recorded = the_view (param 0 g.row.L) g.L.ShowsRecent g.L.Entries c.self.inside in
     let listed = noted_list_grows_by_since old c.room.new.self c.play_inner.new.self c.args.seat c.recent-before.result.now c.reserve.new.self.items c.note_since.new.list.items before c.note_since.ensures.items c.reserve.ensures.items in
     inner_is_made old (after g c) c.room.new.self c.play_inner.new.self c.args.seat c.args.inner made (record {
       same_heap = ap (λ (m : MachineValue). m.heap) c.note_since.ensures.same ∙ c.play_inner.ensures.heap ∙ ap (λ (m : MachineValue). m.heap) c.room.ensures.same;
@@ -59,8 +59,8 @@ invariant_of-self-2 g c =
     let here = goal.at.invariant_of-self-2 g c in
     let made = facts g here.After-play_inner in
     let told = c.note_since.ensures in
-    let own = collector_room_stays (the_view (param 0 g.row.L) g.L.Entries c.self.inside) c.play_inner.new.self c.note_since.new.machine c.args.seat made.within made.own_room told.same told.others in (
-      events_lead_on_by_inner AnyEvents (the_view (param 0 g.row.L) g.L.Entries c.self.inside) (after g here.After-note_since) c.self.invariant.0 c.args.seat c.args.inner (makes g here.After-note_since (remembers g here.After-play_inner) made) tt,
+    let own = collector_room_stays (the_view (param 0 g.row.L) g.L.ShowsRecent g.L.Entries c.self.inside) c.play_inner.new.self c.note_since.new.machine c.args.seat made.within made.own_room told.same told.others in (
+      events_lead_on_by_inner AnyEvents (the_view (param 0 g.row.L) g.L.ShowsRecent g.L.Entries c.self.inside) (after g here.After-note_since) c.self.invariant.0 c.args.seat c.args.inner (makes g here.After-note_since (remembers g here.After-play_inner) made) tt,
       record {
         own_room = omega (arith, own, c.self.invariant.1.own_room, told.left);
         listed_room = omega (arith, c.self.invariant.1.listed_room, told.left, told.capacity, told.len, c.in_ok-reserve.ensures.capacity, c.in_ok-reserve.ensures.len);

@@ -19,7 +19,7 @@ use Rattle.heap_record.proofs.recorder.turning.RecorderCollectorCalls.turn.Goals
 facts : (g : Over) (c : After-play_turn-turn g) → TurnFacts c.self.inside.machine c.play_turn-turn.new.self c.heap-collector.result.seats
 facts g c =
     let law = c.law_every_run.ensures in
-    turn_facts_of_machine law.run law.step law.turns (the_view (param 0 g.row.L) g.L.Entries c.self.inside) c.play_turn-turn.new.self c.heap-collector.result c.self.invariant.0 c.play_turn-turn.ensures.can c.play_turn-turn.ensures.state c.heap-collector.ensures.heap
+    turn_facts_of_machine law.run law.step law.turns (the_view (param 0 g.row.L) g.L.ShowsRecent g.L.Entries c.self.inside) c.play_turn-turn.new.self c.heap-collector.result c.self.invariant.0 c.play_turn-turn.ensures.can c.play_turn-turn.ensures.state c.heap-collector.ensures.heap
 
 -- what the machine showed before
 remembers : (g : Over) (c : After-play_turn-turn g) → Remembers c.self.inside.machine c.play_turn-turn.new.self c.heap-collector.result.seats c.recent-before.result.now
@@ -30,11 +30,11 @@ abbrev after : (g : Over) → After-saturating_add-self-inside g → Recorded
 after g c = record { machine = c.note_since.new.machine; history = without_turned c.note_since.new.list.items; listed = c.note_since.new.list.items; spare = c.note_since.new.spare; turns = c.saturating_add-self-inside.result; last_turn = Some c.play_turn-turn.result }
 
 -- so it is what contracts say of it
-makes : (g : Over) (c : After-saturating_add-self-inside g) → Remembers c.self.inside.machine c.play_turn-turn.new.self c.heap-collector.result.seats c.recent-before.result.now → TurnFacts c.self.inside.machine c.play_turn-turn.new.self c.heap-collector.result.seats → MakesTurn (the_view (param 0 g.row.L) g.L.Entries c.self.inside) (after g c) c.play_turn-turn.result
+makes : (g : Over) (c : After-saturating_add-self-inside g) → Remembers c.self.inside.machine c.play_turn-turn.new.self c.heap-collector.result.seats c.recent-before.result.now → TurnFacts c.self.inside.machine c.play_turn-turn.new.self c.heap-collector.result.seats → MakesTurn (the_view (param 0 g.row.L) g.L.ShowsRecent g.L.Entries c.self.inside) (after g c) c.play_turn-turn.result
 makes g c before made =
     let law = c.law_every_run.ensures in
     let turn = c.play_turn-turn.ensures in
-    let old : Recorded = the_view (param 0 g.row.L) g.L.Entries c.self.inside in
+    let old : Recorded = the_view (param 0 g.row.L) g.L.ShowsRecent g.L.Entries c.self.inside in
     let two = c.play_turn-turn.new.self in
     let party = c.heap-collector.result.seats in
     let listed = noted_list_grows_by_since old old.machine two party c.recent-before.result.now old.listed c.note_since.new.list.items before c.note_since.ensures.items refl in
@@ -62,7 +62,7 @@ pub invariant_of-self : goal.invariant_of-self
 invariant_of-self g c =
     let here = goal.at.invariant_of-self g c in
     let made = facts g here.After-play_turn-turn in
-    let old : Recorded = the_view (param 0 g.row.L) g.L.Entries c.self.inside in
+    let old : Recorded = the_view (param 0 g.row.L) g.L.ShowsRecent g.L.Entries c.self.inside in
     let told = c.note_since.ensures in
     let before = remembers g here.After-play_turn-turn in
     let two = c.play_turn-turn.new.self in

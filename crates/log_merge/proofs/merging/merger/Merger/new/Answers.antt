@@ -7,4 +7,4 @@ pub returns-clause-merging : goal.returns-clause-merging
 returns-clause-merging c =
     let logs = map (λ log. log.items) c.args.logs.now in
     let counts : c.in_ok-vec.field-0.items ≡ replicate (length logs) 0 = grind (arith, common_steps) in
-    IsMerging-none logs _ c.requires.order c.new-2.ensures.items c.in_ok-new.ensures counts c.in_ok-of_logs.ensures
+    IsMerging-none logs _ c.requires.order c.requires.few c.new-2.ensures.items c.in_ok-new.ensures counts c.in_ok-of_logs.ensures
