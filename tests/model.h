@@ -98,10 +98,10 @@ static bool hold_same(const cell *one, const cell *other)
     return one->kind == other->kind && one->number == other->number && one->seat == other->seat;
 }
 
-/* The stamp of the seat's next set. */
+/* The stamp of the seat's next set: the sets' number is told but for a multiple of 2^26. */
 static uint32_t next_stamp(uint32_t number)
 {
-    return ((number + 1) << 26) + ++model.seats[number].sets;
+    return ((number + 1) << 26) + (++model.seats[number].sets & 0x3ffffff);
 }
 
 static uint32_t spine_need(uint32_t cells)
