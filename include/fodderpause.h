@@ -22,8 +22,7 @@
  *   No call is made from a signal handler, nor in the forked child of a process with threads.
  *   malloc, realloc and free are of one allocator, and a block is aligned to each power of two up to 16 that divides its size.
  *
- * No call takes memory but fodderpause_make, and fodderpause_close, which gives back what it takes. fodderpause_fold_in, fodderpause_close and
- * fodderpause_drop give back what fodderpause_make took.
+ * No call takes memory but fodderpause_make. fodderpause_fold_in, fodderpause_close and fodderpause_drop give back what it took.
  */
 #ifndef FODDERPAUSE_H
 #define FODDERPAUSE_H
@@ -212,7 +211,8 @@ uint32_t fodderpause_fold_in(fodderpause_handle *collector, fodderpause_handle *
 
 /*
  * Closes a heap whose seats were all folded in: its words are read a last time, its memory is given back, and there is nothing behind the handle then.
- * NO_PARTY, NOT_FOLDED, NO_MEMORY, at which the heap stays, and can be closed later.
+ * All that its seats and its collector told goes into one order in which each answer is the one of a heap that keeps every object for ever.
+ * NO_PARTY; NOT_FOLDED, at which the heap stays, and can be closed later.
  */
 uint32_t fodderpause_close(fodderpause_handle *collector);
 
