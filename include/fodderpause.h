@@ -29,8 +29,8 @@
  * Each number is looked at whole before it is used: one that is too large is OUT_OF_RANGE, and nothing changes. What C itself cuts to the 32 bits of a
  * parameter before the call, as of the long 4294967297, can't be seen.
  *
- * No call takes memory but fodderpause_make, and fodderpause_close, which gives back what it takes. fodderpause_fold_in, fodderpause_close,
- * fodderpause_drop_seat and fodderpause_drop_collector give back what fodderpause_make took.
+ * No call takes memory but fodderpause_make. fodderpause_fold_in, fodderpause_close, fodderpause_drop_seat and fodderpause_drop_collector give back what
+ * it took.
  */
 #ifndef FODDERPAUSE_H
 #define FODDERPAUSE_H
@@ -271,7 +271,8 @@ FODDERPAUSE_LOOK uint32_t fodderpause_fold_in(fodderpause_collector *collector, 
 
 /*
  * Closes a heap whose seats were all folded in: its words are read a last time, its memory is given back, and there is nothing behind the handle then.
- * NO_PARTY, NOT_FOLDED, NO_MEMORY, at which the heap stays, and can be closed later.
+ * All that its seats and its collector told goes into one order in which each answer is the one of a heap that keeps every object for ever.
+ * NO_PARTY; NOT_FOLDED, at which the heap stays, and can be closed later.
  */
 FODDERPAUSE_LOOK uint32_t fodderpause_close(fodderpause_collector *collector);
 

@@ -207,13 +207,8 @@ static void close_all(void)
     }
 }
 
-/* The table's words are read into a list of their own. */
 static void close_heap(void)
 {
-    allowed = 0;
-    is("memory was wanting to close", fodderpause_close(&collector), FODDERPAUSE_NO_MEMORY);
-    allowed = ULONG_MAX;
-    is("the collector is there", fodderpause_phase(&collector).code, FODDERPAUSE_DONE);
     is("closed", fodderpause_close(&collector), FODDERPAUSE_DONE);
     is("closed again", fodderpause_close(&collector), FODDERPAUSE_NO_PARTY);
     is("all is given back", blocks, 0);
@@ -288,8 +283,8 @@ int main(void)
     call(&seats[0]);
     end_cycles();
     close_all();
-    is("taken by all these calls", taken, 0);
     close_heap();
+    is("taken by all these calls", taken, 0);
     open_each_board();
     set_past_all_stamps();
     return failed;
