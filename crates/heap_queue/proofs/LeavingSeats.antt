@@ -103,9 +103,9 @@ has_gone table heap old new was leaves =
     }
 
 -- a seat that has served its script and then left
-has_served : (number seat unborn : ℕ) (script : List QueueCommand) (log : List Entry) → HasCome number script log → HasServed number script (log ++ leave_entries seat unborn)
-has_served number seat unborn script log come =
-    let leaving = leave_entries seat unborn in
+has_served : (number unborn : ℕ) (script : List QueueCommand) (log : List Entry) → HasCome number script log → HasServed number script (log ++ leave_entries number unborn)
+has_served number unborn script log come =
+    let leaving = leave_entries number unborn in
     record {
       opening = come.opening;
       found = come.found;
@@ -113,10 +113,12 @@ has_served number seat unborn script log come =
       serving = come.serving;
       served = come.served;
       leaving = leaving;
-      left = leave_leads seat unborn;
+      unborn = unborn;
+      leaves = refl;
+      left = leave_leads number unborn;
       log_is = ap (λ (l : List Entry). l ++ leaving) come.log_is;
       leads = subst (λ (calls : List Call). Leads (start 0 number) (log ++ leaving) Gone calls) (append-nil (first_calls number ++ come.calls))
-          (leads_on (start 0 number) Rests Gone log leaving (first_calls number ++ come.calls) [] come.leads (leave_leads seat unborn));
+          (leads_on (start 0 number) Rests Gone log leaving (first_calls number ++ come.calls) [] come.leads (leave_leads number unborn));
     }
 
 pub has_worked : (table : TableId) (heap : Heap) (number : ℕ) (script : List QueueCommand) (old served gone : SeatHeld) → IsOfTable table heap served → number ≡ old.number → HasLeftFor (length script) (seat_state old)
@@ -124,7 +126,9 @@ pub has_worked : (table : TableId) (heap : Heap) (number : ℕ) (script : List Q
 has_worked table heap number script old served gone of_table is may went left = record {
   number_is = left.number_stays ∙ went.number;
   served = subst (λ (n : ℕ). HasServed n script gone.seat.mine) is
-      (subst (HasServed number script) (sym left.mine) (has_served number served.number left.unborn script served.seat.mine (subst (HasCome number script) (sym went.told) went.tells)));
+      (subst (HasServed number script) (sym left.mine)
+      (subst (λ (n : ℕ). HasServed number script (served.seat.mine ++ leave_entries n left.unborn)) (is ∙ sym went.number)
+      (has_served number left.unborn script served.seat.mine (subst (HasCome number script) (sym went.told) went.tells))));
   gone = has_gone table heap served gone of_table left;
   few = omega (arith, may.stamps, went.sets, sets_stay served gone left);
 }

@@ -108,7 +108,11 @@ module _ (heap : Heap) (scripts : List (List QueueCommand)) (ran : QueueRan) (is
     -- a text that tells this is one of the run
     pub text_tells_queue : (calls : List ToldCall) (text : List ℕ) → calls ≡ told_of heap 0 history → effects_in calls ≡ effects_of heap 0 history → text ≡ text_of (queue_lines heap calls) → TellsQueue heap scripts ran.closed text
     text_tells_queue calls text told effects rendered = record {
+      history = history;
+      objects = legal;
+      logs = kept;
       calls = calls;
+      told = told;
       rendered = rendered;
       legal = subst AreQueueLegal (sym effects) (effects_are_legal heap 0 history two is_queues);
       each = λ number within. subst (TellsSeat number (script_at scripts number) (slice_index_or ran.closed.logs number [])) (sym told) (seat_is_told number within);

@@ -15,6 +15,7 @@ fn open_first<N: HeldName>(first: &mut TableSeat<N>) -> Result<Option<Full>, Mem
     requires number { first.old.number ≡ 0 }
     requires present { IsPresent first.old }
     requires silent { first.old.seat.mine ≡ [] }
+    requires board { 2 ≤ first.old.heap.board }
     ensures { IfOk result (HasOpened first.new) }
 {
     first.room(16)?;
@@ -27,6 +28,7 @@ fn open_first<N: HeldName>(first: &mut TableSeat<N>) -> Result<Option<Full>, Mem
 /// Makes the queue on the first of all seats of the table, and tells the refusal of its first node, if that was refused.
 pub(crate) fn open<N: HeldName>(seats: &mut Vec<Seat>) -> Result<Option<Full>, Memory>
     requires some { 1 ≤ N.heap.seats }
+    requires board { 2 ≤ N.heap.board }
     requires numbered { map (λ seat. seat.number) seats.old.items ≡ range_with_len 0 N.heap.seats }
     requires untouched { All (IsUntouched N.table N.heap) seats.old.items }
     ensures { IfOk result (OpensFirst N.table N.heap seats.old.items seats.new.items) }

@@ -48,6 +48,11 @@ open_first-requires-clause-silent g c =
     let untouched = first_untouched g.N.HeldName.table g.N.HeldName.heap c.args.seats.now.items c.remove.result c.requires.some c.requires.numbered c.requires.untouched c.remove.ensures.value in
     ap (λ (seat : SeatHeld). seat.seat.mine) c.new-first.ensures ∙ untouched.silent
 
+pub open_first-requires-clause-board : goal.open_first-requires-clause-board
+open_first-requires-clause-board g c =
+    let untouched = first_untouched g.N.HeldName.table g.N.HeldName.heap c.args.seats.now.items c.remove.result c.requires.some c.requires.numbered c.requires.untouched c.remove.ensures.value in
+    omega (arith, c.requires.board, ap (λ (seat : SeatHeld). seat.heap.board) c.new-first.ensures, ap (λ (h : Heap). h.board) untouched.of_table.heap_is)
+
 pub returns-in_err-refused : goal.returns-in_err-refused
 returns-in_err-refused g c = IfOk-from_err c.from_residual.result _ c.from_residual.ensures.0
 

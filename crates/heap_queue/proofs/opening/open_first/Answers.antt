@@ -1,8 +1,13 @@
-use Rattle.std.proofs.Common.{◌≡◌, ap, ◌∙◌}
+use Rattle.std.proofs.Common.{◌≡◌, ap, ◌∙◌, arith}
 use Rattle.heap_model.specs.calls.SeatState.{SeatState, own_graph_seat}
 use Rattle.mutator_seat.specs.Resting.{seat_state}
 use Rattle.heap_queue.proofs.FirstSeat.{has_made, was_refused}
 use Rattle.heap_queue.proofs.opening.open_first.Goals as goal
+
+pub make_queue-requires-clause-board : goal.make_queue-requires-clause-board
+make_queue-requires-clause-board g c =
+    let roomy : SeatState = record (seat_state c.args.first.now) { spare = (seat_state c.room.new.self).spare } in
+    omega (arith, c.requires.board, ap (λ (s : SeatState). s.heap.board) {y = roomy} c.room.ensures.same)
 
 pub returns-in-Ok : goal.returns-in-Ok
 returns-in-Ok g c =
