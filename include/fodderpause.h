@@ -1,7 +1,7 @@
 /*
  * Fodderpause: a heap of fixed size for up to sixteen seats (mutators), with a garbage collector that works beside them.
  *
- * Link with libfodderpause_c.a and liblibc_c.a (`make lib` puts both, and this header, into lib/). The library starts no thread and takes no lock.
+ * Link with libfodderpause.a (`make lib` puts it, and this header, into lib/). The library starts no thread and takes no lock.
  *
  *     fodderpause_collector collector = FODDERPAUSE_NO_COLLECTOR;
  *     fodderpause_seat seats[2] = {FODDERPAUSE_NO_SEAT, FODDERPAUSE_NO_SEAT};
