@@ -11,6 +11,9 @@
 
 enum { EACH = 10000, THREADS = 4 };
 
+/* The heap has 1,024 fragments, one for each number in the queue: where so many are in it, those that put wait for those that take. */
+enum { MOST = 256 };
+
 enum { HEAD = 1, TAIL, NEXT, NODE, VALUE };
 
 /* The board's fields: the queue's first node, whose number was taken already, and its last. */
@@ -22,7 +25,8 @@ enum { ITS_VALUE, ITS_NEXT };
 static fodderpause_collector collector = FODDERPAUSE_NO_COLLECTOR;
 static fodderpause_seat seats[THREADS] = {FODDERPAUSE_NO_SEAT, FODDERPAUSE_NO_SEAT, FODDERPAUSE_NO_SEAT, FODDERPAUSE_NO_SEAT};
 
-/* How many numbers were taken out, and how many threads are through. */
+/* How many numbers were put in and taken out, and how many threads are through. */
+static atomic_int put_in;
 static atomic_int taken;
 static atomic_int through;
 
@@ -111,6 +115,10 @@ static void leave(fodderpause_seat *seat)
 static void *put_all(void *seat)
 {
     for (uint32_t n = 1; n <= EACH; n++) {
+        while (atomic_load(&put_in) - atomic_load(&taken) >= MOST) {
+            rest(seat);
+        }
+        atomic_fetch_add(&put_in, 1);
         put(seat, n);
         done(fodderpause_poll(seat).code);
     }
