@@ -20,7 +20,6 @@ mod playing;
 mod racing;
 mod swaps;
 mod told;
-mod wrapping;
 
 /// What a seat does that is alone on a heap of one group and six spine words, and how many objects it has made and sets
 /// it has done then. The board leaves 5 fragments.
