@@ -21,7 +21,7 @@ pub use account::effect::Effect;
 pub use account::laws::account_laws;
 pub use behind::Behind;
 pub use calls::collect::{CollectReply, Inner};
-pub use calls::collector_calls::{CollectorCalls, Turn};
+pub use calls::collector_calls::{CollectorCalls, Turn, TurnsMade};
 pub use calls::laws::seat_laws;
 pub use calls::seat_calls::SeatCalls;
 pub use command::{Command, TurnCommand};

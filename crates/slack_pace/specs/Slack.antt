@@ -1,8 +1,8 @@
 -- How many turns a pace asks for, and what it is to make them.
 use Rattle.std.specs.Prelude.{◌≡◌, ℕ, zero, suc, ◌+◌, ◌-◌, ◌*◌, ◌^◌, min, Option, Some, None}
 use Rattle.heap_model.specs.declared.calls.collector_calls.Turn.{Turn}
-use Rattle.heap_model.specs.declared.calls.collector_calls.Turn.TheVariants.{Waits}
 use Rattle.heap_model.specs.calls.CollectorCalls.{CollectorState, Turns}
+pub use Rattle.heap_model.specs.calls.ManyTurns.{GoesOnward, MakesOnward, HasWaited}
 
 -- the most turns that a pace asks for at once
 abbrev pub most_slack_turns : ℕ
@@ -15,16 +15,6 @@ slack_room = most_slack_turns + 2
 -- sixteen turns, and eight more for each fragment claimed, up to the most at once
 abbrev pub steady_turns : ℕ → ℕ
 steady_turns claimed = min most_slack_turns (16 + 8 * claimed)
-
--- the turn doesn't wait
-abbrev pub GoesOnward : Turn → Type 0
-GoesOnward (Waits seat answered phase) = ⊥
-GoesOnward _ = Unit {0}
-
--- so many turns were made, one after another, each of which did this, and none of them waited
-abbrev pub MakesOnward : {Whole : Type 0} → (Whole → Whole → Turn → Type 0) → ℕ → Whole → Whole → Type 0
-MakesOnward Does zero old new = new ≡ old
-MakesOnward {Whole} Does (suc n) old new = (now : Whole) × (turn : Turn) × MakesOnward Does n old now × Does now new turn × GoesOnward turn
 
 -- so many turns were made, one after another, each of which did this, and none but the last of them waited
 abbrev pub MakesEach : {Whole : Type 0} → (Whole → Whole → Turn → Type 0) → ℕ → Whole → Whole → Type 0
@@ -43,8 +33,3 @@ CountsTurns made old new = min new.turns (2 ^ 64 - 1) ≡ min (old.turns + made)
 abbrev pub last_made : ℕ → CollectorState → Option Turn
 last_made zero new = None
 last_made (suc n) new = new.last_turn
-
--- the last turn waited
-abbrev pub HasWaited : Option Turn → Type 0
-HasWaited (Some (Waits seat answered phase)) = Unit {0}
-HasWaited _ = ⊥

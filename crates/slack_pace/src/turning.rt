@@ -2,7 +2,7 @@ ghost use Rattle.std.specs.Prelude.{◌≡◌, ◌+◌, ◌<◌, ◌≤◌, leng
 ghost use Rattle.slack_pace.specs.Slack.{slack_room, MakesEach, MakesTurns, CountsTurns, last_made, HasWaited};
 
 use crate::pace::Pace;
-use heap_model::{CollectorCalls, Turn};
+use heap_model::{CollectorCalls, Turn, TurnsMade};
 
 /// How many turns a pace asked for, how many of them were made, and what the last of these came to.
 #[derive(Clone, Copy, Debug, PartialEq, Eq)]
@@ -32,21 +32,6 @@ pub fn slack<C: CollectorCalls>(
     ensures no_more { (C.state collector.new).spare ≤ (C.state collector.old).spare }
 {
     let asked = pace.turns(claimed);
-    let mut last = None;
-    for made in 0..asked {
-        let turn = collector.turn();
-        last = Some(turn);
-        if let Turn::Waits { .. } = turn {
-            return SlackDone {
-                asked,
-                made: made + 1,
-                last,
-            };
-        }
-    }
-    SlackDone {
-        asked,
-        made: asked,
-        last,
-    }
+    let TurnsMade { made, last } = collector.take_turns(asked);
+    SlackDone { asked, made, last }
 }

@@ -1,5 +1,6 @@
-ghost use Rattle.std.specs.Prelude.{◌≡◌, ◌≤◌, length, OnOk, OnErr};
+ghost use Rattle.std.specs.Prelude.{◌≡◌, ◌<◌, ◌≤◌, length, OnOk, OnErr};
 ghost use Rattle.heap_model.specs.calls.CollectorCalls.{CollectorState, Turns};
+ghost use Rattle.heap_model.specs.calls.ManyTurns.{TakesTurns};
 ghost use Rattle.heap_model.specs.declared.calls.collector_calls.Turn.{Turn};
 
 use crate::fault::Memory;
@@ -10,6 +11,13 @@ pub enum Turn {
     Stepped,
     Waits { seat: u8, answered: u64, phase: u64 },
     Ended { cycle: u64, kept: u64 },
+}
+
+/// How many turns were made in one go, and what the last of them came to.
+#[derive(Clone, Copy, Debug, PartialEq, Eq)]
+pub struct TurnsMade {
+    pub made: u64,
+    pub last: Option<Turn>,
 }
 
 /// The collector of a heap. No call but `room` takes memory.
@@ -28,6 +36,26 @@ pub trait CollectorCalls {
         requires { 2 ≤ (state self.old).spare }
         ensures turns { Turns (state self.old) (state self.new) result }
         ensures turned { turned self.old self.new result };
+
+    /// Makes `n` turns, or those up to the first that waits.
+    fn take_turns(&mut self, n: u64) -> TurnsMade
+        requires { n < (state self.old).spare }
+        ensures turns { TakesTurns Turns n (state self.old) (state self.new) result }
+        ensures turned { TakesTurns turned n self.old self.new result }
+    {
+        let mut last = None;
+        for made in 0..n {
+            let turn = self.turn();
+            last = Some(turn);
+            if let Turn::Waits { .. } = turn {
+                return TurnsMade {
+                    made: made + 1,
+                    last,
+                };
+            }
+        }
+        TurnsMade { made: n, last }
+    }
 
     /// Makes room for at least `n` more entries.
     fn room(&mut self, n: usize) -> Result<(), Memory>
