@@ -14,4 +14,5 @@ pub mod CollectorHolders
 pub mod Histories
 pub mod MadeSteps
 pub mod OneGo
+pub mod OneStep
 pub mod NearFields

@@ -1,8 +1,8 @@
 -- Calls on a field that stands in its object's first fragment: which step is due after which, and what ends them.
-use Rattle.std.proofs.Common.{◌≡◌, ℕ, ◌+◌, ◌<◌, ◌/◌, ◌^◌, true, false, cond, nat_lt, List, [], ◌∷◌, ◌++◌, Option, Some, None, refl, sym, ap, subst, ◌∙◌, append-nil, arith}
+use Rattle.std.proofs.Common.{◌≡◌, ℕ, ◌+◌, ◌<◌, ◌^◌, true, false, cond, nat_lt, List, [], Option, Some, None, refl, sym, ap, subst, ◌∙◌, append-nil, arith}
 use Rattle.std.specs.Prelude.{unwrap_or, IfSome}
 use Rattle.heap_model.specs.Heap.{IsHeap}
-use Rattle.heap_words.specs.Loaded.{length_of, array_length_of, head_of, stamp_of}
+use Rattle.heap_words.specs.Loaded.{length_of, head_of, stamp_of}
 use Rattle.heap_model.specs.declared.command.Command.{Command}
 use Rattle.heap_model.specs.declared.command.Command.TheVariants.{Get, Set}
 use Rattle.heap_model.specs.declared.entry.Entry.{Entry}
@@ -13,10 +13,8 @@ use Rattle.heap_model.specs.declared.reply.Reply.{Reply}
 use Rattle.heap_model.specs.declared.reply.Reply.TheVariants.{Got, NoField, Was}
 use Rattle.heap_model.specs.graph.Growth.{set_stamp}
 use Rattle.core_machine.specs.declared.point.Access.TheVariants.{LoadingMeta, Getting, Naming, LoadingOld, Swapping}
-use Rattle.core_machine.specs.declared.seat.register.Register.{Register}
 use Rattle.core_machine.specs.declared.seat.register.Register.TheVariants.{Object}
 use Rattle.core_machine.specs.declared.step.AccessStep.TheVariants.{WalkLoad, GetLoad, NameLoad, Swap}
-use Rattle.core_machine.specs.declared.step.Step.{Step}
 use Rattle.core_machine.specs.declared.step.Step.TheVariants.{Access}
 use Rattle.core_machine.specs.machine.Machine.{after_begin}
 use Rattle.core_machine.specs.Moves.{due_step}

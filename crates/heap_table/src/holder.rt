@@ -21,6 +21,7 @@ mod handshake;
 mod making;
 mod near;
 mod near_set;
+mod one_step;
 mod spine;
 mod starting;
 

@@ -20,10 +20,31 @@ impl<L: Entries> Holder<L> {
         match *command {
             Command::Get { d, r, i } => self.get_near(d, r, i),
             Command::Set { r, i, v } => self.set_near(r, i, v),
+            Command::Num { d, n } => {
+                self.local_near(Command::Num { d, n });
+                true
+            }
+            Command::Nil { d } => {
+                self.local_near(Command::Nil { d });
+                true
+            }
+            Command::Copy { d, r } => {
+                self.local_near(Command::Copy { d, r });
+                true
+            }
+            Command::Same { a, b } => {
+                self.local_near(Command::Same { a, b });
+                true
+            }
+            Command::Len { r } => {
+                self.len_near(r);
+                true
+            }
+            Command::Poll => self.poll_near(),
             other => {
                 self.begin(other);
                 false
-            },
+            }
         }
     }
 }

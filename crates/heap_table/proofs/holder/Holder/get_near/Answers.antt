@@ -1,6 +1,6 @@
-use Rattle.std.proofs.Common.{◌≡◌, ℕ, ◌+◌, ◌≤◌, [], ◌∷◌, ◌++◌, length, Some, refl, sym, ap, subst, ◌∙◌, arith}
+use Rattle.std.proofs.Common.{ℕ, length, Some, refl, sym, ap, subst, ◌∙◌, arith}
 use Rattle.heap_model.specs.declared.command.Command.TheVariants.{Get}
-use Rattle.core_machine.specs.declared.step.AccessStep.TheVariants.{WalkLoad, GetLoad, NameLoad}
+use Rattle.core_machine.specs.declared.step.AccessStep.TheVariants.{WalkLoad, GetLoad}
 use Rattle.core_machine.specs.declared.step.Step.TheVariants.{Access}
 use Rattle.core_machine.specs.machine.Machine.{after_begin}
 use Rattle.core_machine.specs.seat.Seat.{Seat}

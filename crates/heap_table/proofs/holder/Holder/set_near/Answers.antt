@@ -1,4 +1,4 @@
-use Rattle.std.proofs.Common.{◌≡◌, ℕ, ◌+◌, ◌≤◌, [], ◌∷◌, ◌++◌, length, Some, refl, sym, ap, subst, ◌∙◌, arith}
+use Rattle.std.proofs.Common.{ℕ, length, Some, refl, sym, ap, subst, ◌∙◌, arith}
 use Rattle.heap_model.specs.declared.command.Command.TheVariants.{Set}
 use Rattle.core_machine.specs.declared.step.AccessStep.TheVariants.{WalkLoad, Swap}
 use Rattle.core_machine.specs.declared.step.Step.TheVariants.{Access}
