@@ -10,6 +10,7 @@ use std::marker::Model;
 
 pub(crate) mod copying;
 pub(crate) mod due;
+pub(crate) mod endings;
 pub(crate) mod marking;
 pub(crate) mod stage;
 pub(crate) mod sweeping;

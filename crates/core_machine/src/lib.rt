@@ -10,7 +10,10 @@ mod step;
 mod table;
 
 pub use collector::CollectorParty;
+pub use collector::copying::visit;
+pub use collector::marking::pass_on;
 pub use collector::stage::{ArrayAt, Copying, Scan, SpineCopy, SpineScan, Stage, Visit};
+pub use collector::sweeping::{cleared, examine_from, swept};
 pub use log::counted::CountedLog;
 pub use log::kept::Log;
 pub use log::last::LastLog;
@@ -27,3 +30,4 @@ pub use seat::register::Register;
 pub use step::operation::Operation;
 pub use step::{AccessStep, CopyingStep, HandshakeStep, MakingStep, SpineStep, Step, TurningStep};
 pub use table::address::Address;
+pub use table::decode::spine_words;

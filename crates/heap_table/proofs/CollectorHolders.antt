@@ -6,38 +6,30 @@ use mathlib.Core.Option.{some, some-injective}
 use Rattle.std.proofs.lemmas.List.{length-set}
 use Rattle.atomic_table.specs.Seated.{TableId}
 use Rattle.atomic_table.specs.Table.{Me, Allows, Joins}
-use Rattle.heap_model.specs.calls.CollectorCalls.{ComesTo}
 use Rattle.heap_model.specs.declared.heap.Heap.{Heap}
 use Rattle.core_machine.specs.collector.Collector.{Collector, next_turn}
 use Rattle.core_machine.specs.collector.FitsTurns.{CollectorFits}
 use Rattle.core_machine.specs.declared.step.Step.{Step}
-use Rattle.core_machine.specs.declared.step.operation.Operation.{Operation}
-use Rattle.core_machine.specs.declared.step.operation.Operation.TheVariants.{Store}
 use Rattle.core_machine.specs.machine.Value.{SeatWithRoom}
 use Rattle.core_machine.specs.seat.Seat.{Seat}
-use Rattle.core_machine.specs.table.Decode.{FoundPointsWithin}
 use Rattle.core_machine.specs.table.Layout.{index_of, HasWord, table_length}
-use Rattle.core_machine.specs.table.Operation.{address_of, operation_of, operation_result, word_after}
-use Rattle.core_machine.proofs.collector_lemmas.{turn_stands}
+use Rattle.core_machine.specs.table.Operation.{address_of, operation_of, word_after}
 use Rattle.heap_table.specs.CollectorHeld.{CollectorHeld, KeepsCollector, IsTurned, seats_in}
 use Rattle.heap_table.specs.Folded.{IsFolded, AllFolded}
 use Rattle.heap_table.specs.Handing.{with_folded, folding_view}
 use Rattle.heap_table.specs.Holds.{Holds}
 use Rattle.heap_table.specs.Known.{CollectorKnown}
+use Rattle.heap_table.specs.ManyTurns.{KeepsAhead}
 use Rattle.heap_table.specs.Quiet.{is_quiet}
-use Rattle.heap_table.specs.Told.{next_collector, next_known, Shows, TurnHasWord, ToldAtTurn, Tells, TellsStored}
+use Rattle.heap_table.specs.Told.{next_collector, next_known, TurnHasWord, TellsStored}
 use Rattle.heap_table.specs.TokenOf.{IsTokenOf}
 use Rattle.heap_table.specs.Views.{seat_view, collector_view, known_by}
 use Rattle.heap_table.specs.declared.view.View.{View}
 use Rattle.heap_table.specs.declared.view.View.TheVariants.{Spent}
 use Rattle.heap_table.proofs.Folding.{folding_is_allowed}
-use Rattle.heap_table.proofs.Quiet.{quiet_collector_ignores_word, quiet_answer_ignores_word, store_is_quiet}
-use Rattle.heap_table.proofs.Stored.{tells_stored_of_store}
-use Rattle.heap_table.proofs.Turns.{rule_allows_turn, next_turn_may}
-
--- what is told at the due turn of the collector whose view this is
-abbrev pub TurnTells : Heap → Me (Unit {0}) View → ℕ → Me (Unit {0}) View → Type 0
-TurnTells heap me = Tells (λ n. collector_view (next_known heap (known_by me.0) n)) (ToldAtTurn heap (known_by me.0).collector) me
+use Rattle.heap_table.proofs.Quiet.{quiet_collector_ignores_word}
+use Rattle.heap_table.proofs.Turns.{next_turn_may}
+use Rattle.heap_table.proofs.TurnsAhead.{TurnTells, ahead_has_its_word, ahead_is_allowed, ahead_tells_stored}
 
 module _ (shared : TableId) (key : Heap) (mine : TableId) (me : Me (Unit {0}) View) (heap : Heap) (collector : Collector) (seat_slots : List (Option SeatWithRoom)) (folded : ℕ)
     (keeps : KeepsCollector shared key mine me heap collector seat_slots folded) where
@@ -48,38 +40,25 @@ module _ (shared : TableId) (key : Heap) (mine : TableId) (me : Me (Unit {0}) Vi
   known_fits : CollectorFits heap known.collector
   known_fits = subst (CollectorFits heap) (sym keeps.collector_is) keeps.fits
 
+  -- so much is kept of the collector that the view tells
+  pub keeps_as_ahead : KeepsAhead shared key mine me heap
+  keeps_as_ahead = record { token = keeps.token; unread = keeps.unread; fits = known_fits; has_word = subst (TurnHasWord heap) (sym keeps.collector_is) keeps.has_word }
+
   module _ (step : Step) (due : (next_turn heap known.collector).step ≡ step) where
     -- the turn has its word
     pub turn_has_its_word : HasWord heap (address_of step)
-    turn_has_its_word = subst (λ (s : Step). HasWord heap (address_of s)) (ap (λ (c : Collector). (next_turn heap c).step) (sym keeps.collector_is) ∙ due) keeps.has_word
+    turn_has_its_word = ahead_has_its_word shared key mine me heap keeps_as_ahead step due
 
     -- the rule allows it
     pub turn_is_allowed : (slots id room : ℕ) (key' : Heap) → slots ≡ shared.slots → key' ≡ key → 2 ≤ room → room + length collector.log < 2 ^ 64
         → Allows (Holds key') slots id me (index_of heap (address_of step)) (word_after step) (TurnTells heap me)
     turn_is_allowed slots id room key' slots_are key_is some_room within =
-        let may = next_turn_may heap known.collector known_fits (omega (arith, some_room, within, ap (λ (c : Collector). length c.log) keeps.collector_is)) in
-        let none_ : slots ≡ 0 = slots_are ∙ ap (λ (z : TableId). z.slots) (sym keeps.token.of.table) ∙ keeps.token.of.slots in
-        subst (λ (k : Heap). Allows (Holds k) slots id me (index_of heap (address_of step)) (word_after step) (TurnTells heap me)) (sym (key_is ∙ keeps.token.of.key_is))
-        (subst (λ (k : ℕ). Allows (Holds heap) k id me (index_of heap (address_of step)) (word_after step) (TurnTells heap me)) (sym none_)
-        (subst (λ (m : Me (Unit {0}) View). Allows (Holds heap) 0 id m (index_of heap (address_of step)) (word_after step) (Tells (λ n. collector_view (next_known heap known n)) (ToldAtTurn heap known.collector) m)) (sym keeps.token.knows)
-        (rule_allows_turn heap known step due may keeps.unread id)))
+        ahead_is_allowed shared key mine me heap keeps_as_ahead step due slots id key'
+        (next_turn_may heap known.collector known_fits (omega (arith, some_room, within, ap (λ (c : Collector). length c.log) keeps.collector_is))) slots_are key_is
 
     -- of a store, it tells what goes with the word stored
     pub turn_tells_stored : TellsStored (operation_of step) (TurnTells heap me)
-    turn_tells_stored = tells_stored_of_store (operation_of step) (TurnTells heap me) (λ word is found after tells.
-        let stores : operation_of (next_turn heap known.collector).step ≡ Store word = ap operation_of due ∙ is in
-        let quiet = store_is_quiet (next_turn heap known.collector).step word stores in
-        let same = quiet_collector_ignores_word heap known.collector found word quiet in
-        let stands = turn_stands heap known.collector keeps.token.limits known_fits in (
-          tells.0 ∙ ap (λ (c : Collector). (collector_view (record known { collector = c }), me.1)) same,
-          record {
-            leads = subst (λ (o : Operation). FoundPointsWithin heap (address_of (next_turn heap known.collector).step) (operation_result o found)) stores (stands.step.leads found tells.1.leads);
-            fits = subst (CollectorFits heap) same tells.1.fits;
-            has_word = subst (TurnHasWord heap) same tells.1.has_word;
-            comes_to = λ old new shown shown_after. subst (ComesTo old new) (quiet_answer_ignores_word heap known.collector found word quiet)
-                (tells.1.comes_to old new shown (subst (Shows new) (sym same) shown_after));
-          },
-        ))
+    turn_tells_stored = ahead_tells_stored shared key mine me heap keeps_as_ahead step due
 
   -- what the holder keeps after the turn
   pub keeps_collector_after_turn : (mine' : TableId) (me' : Me (Unit {0}) View) (next : Collector) (found : ℕ) → mine' ≡ mine → TurnTells heap me found me' → next ≡ next_collector heap collector found

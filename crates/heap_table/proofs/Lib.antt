@@ -10,7 +10,9 @@ pub mod Folding
 pub mod ClosingLoads
 pub mod OpeningHolders
 pub mod SeatHolders
+pub mod TurnsAhead
 pub mod CollectorHolders
+pub mod ManyTurns
 pub mod Histories
 pub mod MadeSteps
 pub mod OneGo

@@ -10,6 +10,7 @@ pub mod TokenOf
 pub mod SeatHeld
 pub mod Ahead
 pub mod CollectorHeld
+pub mod ManyTurns
 pub mod Opened
 pub mod Closed
 pub mod Made

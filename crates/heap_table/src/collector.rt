@@ -23,7 +23,9 @@ mod copying;
 mod handshake;
 mod marking;
 mod slots;
+mod strides;
 mod sweeping;
+mod turns;
 
 /// The collector of a table: the right to make its turns, with what is kept of it and its log, and a slot for each seat that it folds in.
 #[derive(Drop)]

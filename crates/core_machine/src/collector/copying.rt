@@ -31,6 +31,7 @@ pub fn next_half(phase: u64) -> u8
 }
 
 /// The group's marked fragments are seen to: the next group's turn comes, and behind the last one the phase is done.
+#[inline(always)]
 fn next_group(heap: &Heap, group: u16) -> Stage
     requires { group < heap.now.groups }
     ensures { result ≡ after_visited heap.now group }
@@ -44,6 +45,7 @@ fn next_group(heap: &Heap, group: u16) -> Stage
 }
 
 /// The first marked fragment from this position on is looked at.
+#[inline(always)]
 fn visit_from(heap: &Heap, group: u16, marked: u16, from: u8) -> Stage
     requires { group < heap.now.groups }
     ensures { result ≡ after_seen heap.now group marked (next_position_of marked from) }
@@ -59,7 +61,8 @@ fn visit_from(heap: &Heap, group: u16, marked: u16, from: u8) -> Stage
 }
 
 /// The group has this control word: its marked fragments are looked at.
-fn visit(heap: &Heap, group: u16, word: u64) -> Stage
+#[inline(always)]
+pub fn visit(heap: &Heap, group: u16, word: u64) -> Stage
     requires { group < heap.now.groups }
     ensures { result ≡ after_visit heap.now group word }
 {
@@ -68,7 +71,8 @@ fn visit(heap: &Heap, group: u16, word: u64) -> Stage
 
 impl Visit {
     /// The fragment at which it stands.
-    fn fragment(&self) -> u16
+    #[inline(always)]
+    pub fn fragment(&self) -> u16
         requires group { self.now.group < most_groups }
         requires position { self.now.position < group_fragments }
         ensures { result ≡ visited self.now }
@@ -77,6 +81,7 @@ impl Visit {
     }
 
     /// Its fragment is seen to: the next one comes.
+    #[inline(always)]
     fn on(&self, heap: &Heap) -> Stage
         requires { FitsVisit heap.now self.now }
         ensures { result ≡ visit_on heap.now self.now }
@@ -85,7 +90,8 @@ impl Visit {
     }
 
     /// The first word of its fragment was found: where that is an array's meta its name comes next.
-    fn inspected(&self, heap: &Heap, word: u64) -> Stage
+    #[inline(always)]
+    pub fn inspected(&self, heap: &Heap, word: u64) -> Stage
         requires { FitsVisit heap.now self.now }
         ensures { result ≡ after_inspected heap.now self.now (array_length_of word) }
     {

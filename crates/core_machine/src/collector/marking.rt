@@ -16,6 +16,7 @@ use heap_model::limits::GROUP_FRAGMENTS;
 use heap_words::{Spot, array_length, is_meta, lead_in, lowest_grey, payload};
 
 /// A pass has seen the last group: another one begins where it found something, else the flip comes.
+#[inline(always)]
 fn next_pass(found: bool) -> Stage
     ensures { result ≡ after_last_group found }
 {
@@ -30,6 +31,7 @@ fn next_pass(found: bool) -> Stage
 }
 
 /// The group has no grey fragment: the next group's turn comes.
+#[inline(always)]
 fn next_group(heap: &Heap, group: u16, found: bool) -> Stage
     requires { group < heap.now.groups }
     ensures { result ≡ after_group heap.now group found }
@@ -46,6 +48,7 @@ fn next_group(heap: &Heap, group: u16, found: bool) -> Stage
 }
 
 /// The group has this control word: its lowest grey fragment is scanned.
+#[inline(always)]
 pub fn pass_on(heap: &Heap, group: u16, found: bool, word: u64) -> Stage
     requires limits { IsHeap heap.now }
     requires group { group < heap.now.groups }
@@ -63,6 +66,7 @@ pub fn pass_on(heap: &Heap, group: u16, found: bool, word: u64) -> Stage
 
 impl Scan {
     /// The word after the one that was found: the name behind a meta is passed over.
+    #[inline(always)]
     fn next_part(&self, word: u64) -> u8
         requires { self.now.part < 4 }
         ensures { result ≡ part_after self.now.part word }
@@ -75,6 +79,7 @@ impl Scan {
     }
 
     /// One step more was made.
+    #[inline(always)]
     fn stepped(&self) -> Scan
         requires { self.now.steps ≤ 2 * spine_most + 2 }
         ensures { result ≡ scan_step self.now }
@@ -86,6 +91,7 @@ impl Scan {
     }
 
     /// It comes to this word.
+    #[inline(always)]
     fn at(&self, part: u8) -> Stage
         ensures { result ≡ scan_at self.now part }
     {
@@ -98,6 +104,7 @@ impl Scan {
     }
 
     /// Its word was found: what that leads to is marked before the next word's turn comes.
+    #[inline(always)]
     pub fn seen(&self, word: u64) -> Stage
         requires part { self.now.part < 4 }
         requires steps { self.now.steps ≤ 2 * self.now.part }
@@ -121,6 +128,7 @@ impl Scan {
     }
 
     /// The length of an array, where the word that was found is its meta.
+    #[inline(always)]
     fn array_at(&self, word: u64) -> Option<u16>
         ensures { result ≡ array_at self.now.part word }
     {
@@ -146,6 +154,7 @@ impl Scan {
     }
 
     /// What its word led to was marked: the word `next` comes.
+    #[inline(always)]
     pub fn shaded(&self, next: u8) -> Stage
         requires { self.now.steps < 8 }
         ensures { result ≡ scan_at (scan_step self.now) next }
@@ -154,6 +163,7 @@ impl Scan {
     }
 
     /// All its words were seen to: its group's turn comes again.
+    #[inline(always)]
     pub fn done(&self) -> Stage
         ensures { result ≡ Passing (self.now.fragment / group_fragments) true }
     {

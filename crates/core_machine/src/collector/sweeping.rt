@@ -8,6 +8,7 @@ use heap_model::Heap;
 use heap_words::{dead_bits, next_position, taken_count};
 
 /// The group is swept: the next group's turn comes, and behind the last one the phase is done.
+#[inline(always)]
 pub fn sweep_on(heap: &Heap, group: u16) -> Stage
     requires { group < heap.now.groups }
     ensures { result ≡ after_swept heap.now group }
@@ -22,6 +23,7 @@ pub fn sweep_on(heap: &Heap, group: u16) -> Stage
 
 /// The first dead fragment from this position on is looked at; where there is none the dead ones are freed. Arrays among
 /// those before it had so many spine words.
+#[inline(always)]
 pub fn examine_from(heap: &Heap, group: u16, dead: u16, words: u32, from: u8) -> Stage
     requires { group < heap.now.groups }
     ensures { result ≡ after_examined heap.now group dead words (next_position_of dead from) }
@@ -52,6 +54,7 @@ pub fn freed(heap: &Heap, group: u16, words: u32) -> Stage
 }
 
 /// The group has this control word: its dead fragments are looked at first.
+#[inline(always)]
 pub fn swept(heap: &Heap, group: u16, word: u64) -> Stage
     requires { group < heap.now.groups }
     ensures { result ≡ after_examined heap.now group (dead_bits_of word) 0 (next_position_of (dead_bits_of word) 0) }
@@ -61,6 +64,7 @@ pub fn swept(heap: &Heap, group: u16, word: u64) -> Stage
 
 /// The marks of the group that had this control word are cleared: the next group's turn comes, and behind the last one
 /// the cycle's end.
+#[inline(always)]
 pub fn cleared(heap: &Heap, group: u16, kept: u64, word: u64) -> Stage
     requires limits { IsHeap heap.now }
     requires group { group < heap.now.groups }

@@ -7,6 +7,7 @@ use heap_model::Id;
 use heap_words::{Cell, Kind, Name, array_length};
 
 /// How many words the spine of an array with so many cells has.
+#[inline(always)]
 pub fn array_words(cells: u16) -> u16
     requires { cells < 2 ^ 13 }
     ensures { result ≡ array_words_of cells }
@@ -15,6 +16,7 @@ pub fn array_words(cells: u16) -> u16
 }
 
 /// How many words the spine of that array has; 0 where the word is no array's meta.
+#[inline(always)]
 pub fn spine_words(word: u64) -> u16
     ensures { result ≡ spine_words_in word }
 {
