@@ -1,2 +1,3 @@
 pub mod Causes
 pub mod Turned
+pub mod ManyTurned

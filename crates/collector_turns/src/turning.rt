@@ -5,7 +5,7 @@ ghost use Rattle.collector_turns.specs.Turning.{TakesTurn, MakesRoom};
 
 use crate::collector::Collector;
 use core_machine::{CountsEntries, Entries};
-use heap_model::{CollectorCalls, Memory, Turn};
+use heap_model::{CollectorCalls, Memory, Turn, TurnsMade};
 
 impl<L: Entries, C: CountsEntries> CollectorCalls for Collector<L, C> {
     ghost state = { state_of };
@@ -18,6 +18,14 @@ impl<L: Entries, C: CountsEntries> CollectorCalls for Collector<L, C> {
         let (_, turn) = self.holder.turn();
         self.last_turn = Some(turn);
         turn
+    }
+
+    fn take_turns(&mut self, n: u64) -> TurnsMade {
+        let done = self.holder.take_turns(n);
+        if let Some(last) = done.last {
+            self.last_turn = Some(last);
+        }
+        done
     }
 
     fn room(&mut self, n: usize) -> Result<(), Memory> {

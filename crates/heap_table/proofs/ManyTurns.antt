@@ -17,7 +17,7 @@ use Rattle.core_machine.specs.collector.FitsTurns.{CollectorFits, FitsStage}
 use Rattle.core_machine.specs.declared.collector.stage.Stage.{Stage}
 use Rattle.core_machine.specs.declared.step.Step.{Step}
 use Rattle.core_machine.specs.machine.Value.{SeatWithRoom}
-use Rattle.heap_table.specs.CollectorHeld.{CollectorHeld, KeepsCollector, IsTurned}
+use Rattle.heap_table.specs.CollectorHeld.{CollectorHeld, KeepsCollector}
 use Rattle.heap_table.specs.Known.{CollectorKnown}
 use Rattle.heap_table.specs.ManyTurns.{collector_in, KeepsAhead, MakesTurn, Works, LeadsTo, WorksOn}
 use Rattle.heap_table.specs.Told.{next_collector, next_known, ToldAtTurn, TurnHasWord}

@@ -1,5 +1,5 @@
 -- A turn of the collector that the token's view tells: it is allowed, and what is kept of the view is kept after it.
-use Rattle.std.proofs.Common.{◌≡◌, ℕ, [], refl, sym, ap, subst, ◌∙◌}
+use Rattle.std.proofs.Common.{◌≡◌, ℕ, [], sym, ap, subst, ◌∙◌}
 use Rattle.atomic_table.specs.Seated.{TableId}
 use Rattle.atomic_table.specs.Table.{Me, Allows}
 use Rattle.heap_model.specs.calls.CollectorCalls.{ComesTo}
