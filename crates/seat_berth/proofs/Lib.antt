@@ -1,0 +1,6 @@
+pub mod Answered
+pub mod Emptied
+pub mod Helping
+pub mod Helps
+pub mod Owning
+pub mod Parties
