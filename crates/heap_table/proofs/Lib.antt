@@ -16,5 +16,7 @@ pub mod ManyTurns
 pub mod Histories
 pub mod MadeSteps
 pub mod OneGo
+pub mod Ways
+pub mod Shades
 pub mod OneStep
 pub mod NearFields

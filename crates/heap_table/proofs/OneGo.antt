@@ -1,5 +1,5 @@
 -- A call in one go: what the view tells after each step, and that the steps lead there.
-use Rattle.std.proofs.Common.{◌≡◌, ℕ, ◌+◌, ◌≤◌, List, [], ◌∷◌, ◌++◌, length, Some, sym, ap, subst, ◌∙◌}
+use Rattle.std.proofs.Common.{◌≡◌, ℕ, ◌+◌, ◌≤◌, List, [], ◌∷◌, length, Some, sym, ap, subst, ◌∙◌}
 use Rattle.atomic_table.specs.Seated.{TableId}
 use Rattle.atomic_table.specs.Table.{Me}
 use Rattle.heap_model.specs.declared.command.Command.{Command}
@@ -16,7 +16,6 @@ use Rattle.heap_table.specs.SeatHeld.{SeatHeld, KeepsSeat}
 use Rattle.heap_table.specs.Told.{Tells, ToldAtStep}
 use Rattle.heap_table.specs.Views.{seat_view}
 use Rattle.heap_table.specs.declared.view.View.{View}
-use Rattle.heap_table.proofs.MadeSteps.{leads_append}
 use Rattle.heap_table.proofs.SeatHolders.{idle_same, keeps_seat_after_begin, keeps_seat_after_step}
 
 -- what a step tells that this seat makes
@@ -59,12 +58,6 @@ module _ (shared : TableId) (key : Heap) (mine : TableId) (me : Me (Unit {0}) Vi
       -- to which that step alone has led
       pub first_leads : (step : Step) → due_step heap number (after_begin heap seat command) ≡ Some step → (made : List Made) × LeadsTo heap number (after_begin heap seat command) made (seat_in after)
       first_leads step due = (record { step = step; found = found } ∷ [], (due, subst (λ (s : Seat). ToldAtStep heap number (after_begin heap s command) found) view_tells_seat told, view_after_first))
-
--- one more step leads on
-pub leads_on : (heap : Heap) (number : ℕ) (first seat next : Seat) (step : Step) (found : ℕ) → ((made : List Made) × LeadsTo heap number first made seat) → due_step heap number seat ≡ Some step
-    → ToldAtStep heap number seat found → next ≡ next_seat heap number seat found → (made : List Made) × LeadsTo heap number first made next
-leads_on heap number first seat next step found leads due told is =
-    (leads.0 ++ record { step = step; found = found } ∷ [], leads_append heap number first seat next leads.0 (record { step = step; found = found } ∷ []) leads.1 (due, told, is))
 
 -- such steps are those of the holder, which stays as it was but for its seat and its room
 pub steps_are_made : (inside old new : SeatHeld) (command : Command) → inside ≡ old → new.table ≡ inside.table → new.heap ≡ inside.heap → new.number ≡ inside.number

@@ -20,6 +20,7 @@ mod access;
 mod handshake;
 mod making;
 mod near;
+mod near_cas;
 mod near_set;
 mod one_step;
 mod spine;

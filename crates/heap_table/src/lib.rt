@@ -6,6 +6,7 @@ mod closed;
 mod closed_words;
 mod closing;
 mod collector;
+mod guards;
 mod holder;
 mod laws;
 mod opening;
@@ -14,6 +15,7 @@ mod rule;
 mod shared_steps;
 mod touch;
 mod view;
+mod way;
 
 pub use closed::Closed;
 pub use closed_words::ClosedWords;

@@ -1,48 +1,19 @@
-ghost use Rattle.std.specs.Prelude.{◌≡◌, ◌+◌, ◌<◌, ◌≤◌, ◌^◌, false, List, length, IfSome, IsTrue};
+ghost use Rattle.std.specs.Prelude.{◌≡◌, ◌+◌, ◌<◌, ◌≤◌, List, length, IsTrue};
 ghost use Rattle.heap_model.specs.Heap.{IsHeap};
 ghost use Rattle.heap_model.specs.declared.command.Command.TheVariants.{Get};
-ghost use Rattle.heap_words.specs.Loaded.{head_of};
 ghost use Rattle.core_machine.specs.declared.point.Point.TheVariants.{Idle};
 ghost use Rattle.core_machine.specs.machine.Machine.{MayBegin, after_begin};
-ghost use Rattle.core_machine.specs.seat.Access.{part_of};
 ghost use Rattle.core_machine.specs.seat.Fits.{Fits};
-ghost use Rattle.heap_table.specs.Ahead.{IsNear, begun};
+ghost use Rattle.heap_table.specs.Ahead.{begun};
 ghost use Rattle.heap_table.specs.Begun.{next_seat};
 ghost use Rattle.heap_table.specs.Made.{Made, MakesSteps};
 ghost use Rattle.heap_table.specs.Told.{ToldAtStep};
 
-use crate::ahead::{step_first, step_next};
+use crate::ahead::step_next;
 use crate::holder::Holder;
+use crate::way::{find_field, referred};
 use core_machine::{AccessStep, Entries, Register, SeatParty, Step};
 use heap_model::{Command, Heap};
-use heap_words::{Meta, array_length, head_in};
-
-/// Whether the field may stand elsewhere than in the first fragment of the record with this meta, or not at all.
-#[inline(always)]
-pub(crate) fn is_far(field: u32, meta: u64) -> bool
-    ensures { result ≡ false → IsNear field meta }
-{
-    field >= 2 || field >= u32::from(Meta::length_in(meta)) || array_length(meta).is_some()
-}
-
-/// The word of its record's first fragment in which one of the first two fields stands.
-#[inline(always)]
-pub(crate) fn near_part(field: u32) -> u8
-    requires { field < 2 }
-    ensures { result ≡ part_of field }
-{
-    field as u8 + 2
-}
-
-/// The first fragment of the object that a field refers to.
-#[inline(always)]
-fn referred(word: u64) -> Option<u16>
-    requires { IfSome (head_of word) (λ head. head < 2 ^ 16) }
-    ensures { result ≡ head_of word }
-{
-    let head = head_in(word)?;
-    Some(head as u16)
-}
 
 /// Begins the command, and learns what its first step has found: the party stands where the view does, and the call goes on step by step.
 #[cold]
@@ -69,7 +40,7 @@ pub(crate) fn catch_up<L: Entries>(
 }
 
 impl<L: Entries> Holder<L> {
-    /// Makes a get, in one go where its field is near. Answers whether it is over; else it is in flight.
+    /// Makes a get, in one go where its object has the field. Answers whether it is over; else it is in flight.
     #[inline(always)]
     pub fn get_near(&mut self, d: u8, r: u8, i: u32) -> bool
         requires may { MayBegin self.old.seat (Get d r i) }
@@ -79,25 +50,28 @@ impl<L: Entries> Holder<L> {
     {
         let command = Command::Get { d, r, i };
         let Register::Object { head, .. } = self.party.register(r) else {
-            self.party.begin(&self.heap, command);
-            return false;
+            self.local_near(command);
+            return true;
         };
-        let walk = Step::Access(AccessStep::WalkLoad { fragment: head });
-        let meta = step_first(
+        let place = match find_field(
             &self.table.shared,
             &mut self.token,
             &self.heap,
             self.number,
+            &self.party,
             &command,
-            &walk,
-        );
-        if is_far(i, meta) {
-            catch_up(&mut self.party, &self.heap, self.number, command, meta);
-            return false;
-        }
+            head,
+            i,
+        ) {
+            Ok(place) => place,
+            Err(meta) => {
+                catch_up(&mut self.party, &self.heap, self.number, command, meta);
+                return false;
+            }
+        };
         let load = Step::Access(AccessStep::GetLoad {
-            fragment: head,
-            part: near_part(i),
+            fragment: place.fragment,
+            part: place.part,
         });
         let word = step_next(
             &self.table.shared,

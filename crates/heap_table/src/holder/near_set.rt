@@ -5,14 +5,16 @@ ghost use Rattle.core_machine.specs.machine.Machine.{MayBegin};
 ghost use Rattle.heap_table.specs.Ahead.{begun};
 ghost use Rattle.heap_table.specs.Made.{Made, MakesSteps};
 
-use crate::ahead::{step_first, step_next};
+use crate::ahead::step_next;
+use crate::guards::guard_set;
 use crate::holder::Holder;
-use crate::holder::near::{catch_up, is_far, near_part};
+use crate::holder::near::catch_up;
+use crate::way::find_field;
 use core_machine::{AccessStep, Entries, Register, Step};
 use heap_model::Command;
 
 impl<L: Entries> Holder<L> {
-    /// Makes a set, in one go where its field is near and the barrier is off. Answers whether it is over; else it is in flight.
+    /// Makes a set, in one go where its object has the field. Answers whether it is over; else it is in flight.
     #[inline(always)]
     pub fn set_near(&mut self, r: u8, i: u32, v: u8) -> bool
         requires may { MayBegin self.old.seat (Set r i v) }
@@ -22,30 +24,39 @@ impl<L: Entries> Holder<L> {
     {
         let command = Command::Set { r, i, v };
         let Register::Object { head, .. } = self.party.register(r) else {
-            self.party.begin(&self.heap, command);
-            return false;
+            self.local_near(command);
+            return true;
         };
-        if self.party.has_barrier() {
-            self.party.begin(&self.heap, command);
-            return false;
-        }
-        let walk = Step::Access(AccessStep::WalkLoad { fragment: head });
-        let meta = step_first(
+        let place = match find_field(
             &self.table.shared,
             &mut self.token,
             &self.heap,
             self.number,
+            &self.party,
             &command,
-            &walk,
+            head,
+            i,
+        ) {
+            Ok(place) => place,
+            Err(meta) => {
+                catch_up(&mut self.party, &self.heap, self.number, command, meta);
+                return false;
+            }
+        };
+        guard_set(
+            &self.table.shared,
+            &mut self.token,
+            &self.heap,
+            self.number,
+            &self.party,
+            &command,
+            place,
+            v,
         );
-        if is_far(i, meta) {
-            catch_up(&mut self.party, &self.heap, self.number, command, meta);
-            return false;
-        }
         let word = self.party.word_to_set(self.number, v);
         let swap = Step::Access(AccessStep::Swap {
-            fragment: head,
-            part: near_part(i),
+            fragment: place.fragment,
+            part: place.part,
             word,
         });
         let found = step_next(

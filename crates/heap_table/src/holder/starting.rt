@@ -20,6 +20,7 @@ impl<L: Entries> Holder<L> {
         match *command {
             Command::Get { d, r, i } => self.get_near(d, r, i),
             Command::Set { r, i, v } => self.set_near(r, i, v),
+            Command::Cas { r, i, a, v } => self.cas_near(r, i, a, v),
             Command::Num { d, n } => {
                 self.local_near(Command::Num { d, n });
                 true
