@@ -1,3 +1,4 @@
+pub mod Berths
 pub mod Helped
 pub mod Known
 pub mod OnlyAnswered

@@ -2,6 +2,7 @@
 #![tactic(auto)]
 
 mod berth;
+mod berths;
 mod helper;
 mod plays;
 mod rule;
@@ -9,5 +10,6 @@ mod steps;
 mod view;
 
 pub use berth::{Berth, Busy};
+pub use berths::Berths;
 pub use helper::{Helped, Helper};
 pub use rule::HeapSeat;
