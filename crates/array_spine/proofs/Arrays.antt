@@ -1,24 +1,22 @@
 -- An array's spine gets its place, and the array is stored and born, step by step.
-use Rattle.std.proofs.Common.{◌≡◌, ℕ, ◌+◌, ◌*◌, ◌<◌, ◌≤◌, List, [], length, Some, None, refl, sym, ap, subst, ◌∙◌, inl, inr, arith}
+use Rattle.std.proofs.Common.{◌≡◌, ℕ, ◌+◌, ◌*◌, ◌<◌, ◌≤◌, List, [], ◌∷◌, ◌++◌, length, Some, None, refl, sym, ap, subst, ◌∙◌, inl, inr, arith}
 use Rattle.std.proofs.lemmas.Bool.Decides.{eqb_tells}
 use Rattle.std.specs.Prelude.{option_map}
-use Rattle.heap_model.specs.Heap.{IsHeap}
 use Rattle.heap_model.specs.declared.heap.Heap.{Heap}
 use Rattle.core_machine.specs.Moves.{Move, move_at, due_step, seat_after, seat_after_due, is_last_birth, bearing_move}
 use Rattle.core_machine.specs.declared.point.Making.TheVariants.{Placing, Listing, Storing, Bearing}
 use Rattle.core_machine.specs.declared.point.Point.{Point}
 use Rattle.core_machine.specs.declared.point.Point.TheVariants as points
 use Rattle.core_machine.specs.declared.step.Step.{Step}
-use Rattle.core_machine.specs.seat.Fits.{Fits}
 use Rattle.core_machine.specs.seat.Making.{store_point}
 use Rattle.core_machine.specs.seat.Seat.{Seat, spine_need}
 use Rattle.core_machine.specs.calls.Owes.{owes, owes_at, steps_left}
 use Rattle.core_machine.proofs.seat_lemmas.Fitting.{listing_cases}
 use Rattle.core_machine.proofs.table_lemmas.Bits.{true_or_false}
 use Rattle.heap_table.specs.Made.{Made, MakesSteps, IsSound}
-use Rattle.heap_table.specs.SeatHeld.{SeatHeld, IsStepped}
+use Rattle.heap_table.specs.SeatHeld.{SeatHeld, IsStepped, StepFinds}
+use Rattle.heap_table.specs.StepLaws.{EachMakesNone, EachStepIsMade, StepsJoin, EachStepIsNearer, EachStaysSound}
 use Rattle.heap_table.specs.Told.{ToldAtStep}
-use Rattle.heap_table.proofs.MadeSteps.{makes_no_steps, step_leaves_fewer, step_leaves_room, step_owes_within_most, step_makes_one_more}
 use Rattle.array_spine.specs.Bearing.{BeginsPlacing}
 
 -- the points from that of the spine's claim on, and that behind them
@@ -39,25 +37,17 @@ pub record WhilePlacing (first now : SeatHeld) : Type 0 where
   pub paid : owes now.seat + length now.seat.mine ≤ 1 + length first.seat.mine
   pub room : owes now.seat + 2 ≤ now.spare
 
-pub while_placing_at_begin : (held : SeatHeld) (fragments : List ℕ) (cells words d : ℕ) → BeginsPlacing held fragments cells words d → IsSound held → 3 ≤ held.spare → WhilePlacing held held
-while_placing_at_begin held fragments cells words d begins sound room =
+pub while_placing_at_begin : EachMakesNone → (held : SeatHeld) (fragments : List ℕ) (cells words d : ℕ) → BeginsPlacing held fragments cells words d → IsSound held → 3 ≤ held.spare → WhilePlacing held held
+while_placing_at_begin none held fragments cells words d begins sound room =
     let owed : owes held.seat ≡ 1 = ap (owes_at held.seat) begins.point_is in
     record {
-      steps = ([], makes_no_steps held);
+      steps = ([], none held);
       sound = sound;
       stands = subst StandsPlacing (sym begins.point_is) tt;
       reserve_stays = refl;
       paid = omega (arith, owed);
       room = omega (arith, owed, room);
     }
-
--- a holder is sound after its step
-sound_on : (now new : SeatHeld) (found : ℕ) → IsSound now → IsStepped now new found → ToldAtStep now.heap now.number now.seat found → IsSound new
-sound_on now new found sound stepped told = record {
-  limits = subst IsHeap (sym stepped.heap_stays) sound.limits;
-  within = omega (arith, sound.within, stepped.number_stays, ap (λ (h : Heap). h.seats) stepped.heap_stays);
-  fits = subst (λ (h : Heap). Fits h new.seat) (sym stepped.heap_stays) (subst (Fits now.heap) (sym stepped.seat_is) told.fits);
-}
 
 -- each of these steps leads to such a point, and leaves the reserve
 abbrev StandsOn : Seat → Seat → Type 0
@@ -79,20 +69,23 @@ stands_on heap number seat found (points.Making Bearing) is stands =
 stands_on heap number seat found points.Idle is stands = (subst StandsPlacing (sym is) tt, refl)
 stands_on heap number seat found _ is stands = absurd stands
 
-pub while_placing_after_step : (first now new : SeatHeld) (step : Step) (found : ℕ) → WhilePlacing first now → due_step now.heap now.number now.seat ≡ Some step → IsStepped now new found
+pub while_placing_after_step : EachStepIsMade → StepsJoin → EachStepIsNearer → EachStaysSound → (first now new : SeatHeld) (step : Step) (found : ℕ) → WhilePlacing first now → due_step now.heap now.number now.seat ≡ Some step → IsStepped now new found
     → ToldAtStep now.heap now.number now.seat found → WhilePlacing first new × (steps_left new.heap new.seat < steps_left now.heap now.seat)
-while_placing_after_step first now new step found while due stepped told =
-    let sound = while.sound in
+while_placing_after_step one joined nearer stays first now new step found while due stepped told =
+    let finds : StepFinds now new found = record { stepped = stepped; told = told } in
+    let last : List Made = record { step = step; found = found } ∷ [] in
+    let makes = one now new step found due finds in
+    let near = nearer now new step found while.sound due finds in
     let on = subst (λ (s : Seat). StandsOn now.seat s) (sym stepped.seat_is) (stands_on now.heap now.number now.seat found now.seat.point refl while.stands) in (
       record {
-        steps = step_makes_one_more first now new step found sound due stepped told while.steps;
-        sound = sound_on now new found sound stepped told;
+        steps = (while.steps.0 ++ last, joined first now new while.steps.0 last while.steps.1 makes);
+        sound = stays now new last while.sound makes;
         stands = on.0;
         reserve_stays = on.1 ∙ while.reserve_stays;
-        paid = step_owes_within_most first now new step found sound due stepped told (1 + length first.seat.mine) while.paid;
-        room = step_leaves_room first now new step found sound due stepped told while.room;
+        paid = omega (arith, while.paid, near.paid);
+        room = omega (arith, while.room, near.paid, stepped.room_stays);
       },
-      step_leaves_fewer first now new step found sound due stepped told,
+      near.fewer,
     )
 
 -- once no step is due the call is over

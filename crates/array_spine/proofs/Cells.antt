@@ -1,5 +1,5 @@
 -- The steps by which a cell is reached through the spine.
-use Rattle.std.proofs.Common.{◌≡◌, ℕ, ◌+◌, ◌/◌, ◌%◌, Bool, cond, List, [], ◌∷◌, Some, sym, ap, subst, ◌∙◌, append-nil}
+use Rattle.std.proofs.Common.{◌≡◌, ℕ, ◌+◌, ◌/◌, ◌%◌, Bool, cond, List, [], ◌∷◌, Some, refl, sym, ap, subst, ◌∙◌, append-nil, arith}
 use Rattle.std.specs.Prelude.{option_map}
 use Rattle.heap_words.specs.Spot.{spot_in}
 use Rattle.heap_model.specs.declared.entry.Entry.{Entry}
@@ -20,7 +20,7 @@ use Rattle.heap_table.specs.Made.{Made, MakesSteps}
 use Rattle.core_machine.proofs.seat_lemmas.FieldPoints.{field_point_cases}
 use Rattle.heap_table.specs.SeatHeld.{SeatHeld, IsStepped}
 use Rattle.heap_table.specs.Told.{ToldAtStep}
-use Rattle.heap_table.proofs.MadeSteps.{while_access_has_reached, makes_one_step, makes_steps_of_append, found_in_first_step, found_in_longer_steps}
+use Rattle.heap_table.specs.StepLaws.{EachStepIsMade, StepsJoin, EachStepReaches}
 use Rattle.object_chain.specs.FieldPlace.{IsPlaceOfField}
 use Rattle.object_chain.specs.Walking.{IsAtField}
 use Rattle.object_chain.proofs.FieldPlaces.{HoldsHead, reached_place_is_fields}
@@ -81,22 +81,22 @@ module _ (old mid new : SeatHeld) (sentinel index address word : ℕ) (begins : 
       subst (λ (s : Seat). IsAtField s.point) (sym indexed) (field_point_cases (λ a. IsAtField (points.Access a)) there there.command tt (λ on. tt) (λ off. tt) (λ on some. tt) (λ on none some. tt) (λ none. tt))
 
   -- and the place that it has reached is that of the cell
-  pub reached_place_is_cells : IsPlaceOfField new sentinel index new.seat.reached new.seat.part
-  reached_place_is_cells =
+  pub reached_place_is_cells : EachStepReaches → IsPlaceOfField new sentinel index new.seat.reached new.seat.part
+  reached_place_is_cells reaches =
       let holds : HoldsHead new.seat sentinel = subst (λ (s : Seat). HoldsHead s sentinel) (sym indexed) holds_first in
       let same : field_of new.seat.command ≡ index = ap (λ (s : Seat). field_of s.command) indexed ∙ begins.index_is in
-      subst (λ (i : ℕ). IsPlaceOfField new sentinel i new.seat.reached new.seat.part) same (reached_place_is_fields new sentinel holds seat_is_at_cell (while_access_has_reached mid new word stepped_then told_then))
+      subst (λ (i : ℕ). IsPlaceOfField new sentinel i new.seat.reached new.seat.part) same (reached_place_is_fields new sentinel holds seat_is_at_cell (reaches mid new word (record { stepped = stepped_then; told = told_then })))
 
-  pub located_steps_name_fragment : (fragment : ℕ) → fragment ≡ new.seat.reached → (made : List Made) × MakesSteps old new made × IsNamedBySpine made sentinel index fragment
-  located_steps_name_fragment fragment is = (
+  pub located_steps_name_fragment : EachStepIsMade → StepsJoin → (fragment : ℕ) → fragment ≡ new.seat.reached → (made : List Made) × MakesSteps old new made × IsNamedBySpine made sentinel index fragment
+  located_steps_name_fragment one joined fragment is = (
     loads_address ∷ loads_word ∷ [],
-    makes_steps_of_append old mid new (loads_address ∷ []) (loads_word ∷ []) (makes_one_step old mid (Spine (AddressLoad sentinel)) address address_due told stepped)
-        (makes_one_step mid new word_step word word_due told_then stepped_then),
+    joined old mid new (loads_address ∷ []) (loads_word ∷ []) (one old mid (Spine (AddressLoad sentinel)) address address_due (record { stepped = stepped; told = told }))
+        (one mid new word_step word word_due (record { stepped = stepped_then; told = told_then })),
     record {
       address = address;
-      located = found_in_first_step (loads_word ∷ []) loads_address;
+      located = (0, omega arith, refl);
       word = word;
-      named = found_in_longer_steps (loads_word ∷ []) loads_address word_step word (found_in_first_step [] loads_word);
+      named = (1, omega arith, refl);
       fragment_is = is ∙ ap (λ (s : Seat). s.reached) indexed;
     },
   )

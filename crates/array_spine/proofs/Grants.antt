@@ -22,7 +22,7 @@ use Rattle.core_machine.proofs.own_stages.Gather.{going_on_keeps_command}
 use Rattle.heap_table.specs.Made.{Made, FoundIn, MakesSteps}
 use Rattle.heap_table.specs.SeatHeld.{SeatHeld, IsStepped}
 use Rattle.heap_table.specs.Told.{ToldAtStep}
-use Rattle.heap_table.proofs.MadeSteps.{makes_one_step, makes_steps_of_append, found_in_first_step, found_in_longer_steps}
+use Rattle.heap_table.specs.StepLaws.{EachStepIsMade, StepsJoin}
 use Rattle.array_spine.specs.Granting.{BeginsGranting, BeginsDropping, IsTurnedDown, is_withdrawing}
 use Rattle.array_spine.specs.declared.budget.SpineFull.{SpineFull}
 
@@ -44,7 +44,7 @@ differ e = cc
 abbrev asked_for_too_many : Seat → ℕ → Seat
 asked_for_too_many seat found = record seat { used = found; point = points.Making Withdrawing }
 
-module _ (old mid : SeatHeld) (words found : ℕ) (begins : BeginsGranting old words) (stepped : IsStepped old mid found) (told : ToldAtStep old.heap old.number old.seat found) where
+module _ (one : EachStepIsMade) (old mid : SeatHeld) (words found : ℕ) (begins : BeginsGranting old words) (stepped : IsStepped old mid found) (told : ToldAtStep old.heap old.number old.seat found) where
   abbrev asks : Made
   asks = record { step = Spine (BudgetAdd words); found = found }
 
@@ -60,7 +60,7 @@ module _ (old mid : SeatHeld) (words found : ℕ) (begins : BeginsGranting old w
       ∙ no_entries (after_budget old.heap old.seat found)
 
   makes_asked : MakesSteps old mid (asks ∷ [])
-  makes_asked = makes_one_step old mid (Spine (BudgetAdd words)) found add_due told stepped
+  makes_asked = one old mid (Spine (BudgetAdd words)) found add_due (record { stepped = stepped; told = told })
 
   withdraws : (b : Bool) → is_withdrawing mid.seat.point ≡ b → is_withdrawing (after_budget old.heap old.seat found).point ≡ b
   withdraws b is = ap (λ (s : Seat). is_withdrawing s.point) (sym asked) ∙ is
@@ -72,7 +72,7 @@ module _ (old mid : SeatHeld) (words found : ℕ) (begins : BeginsGranting old w
     makes_asked,
     record {
       word = found;
-      told = subst (λ (n : ℕ). FoundIn (asks ∷ []) (Spine (BudgetAdd n)) found) (sym begins.words_are) (found_in_first_step [] asks);
+      told = subst (λ (n : ℕ). FoundIn (asks ∷ []) (Spine (BudgetAdd n)) found) (sym begins.words_are) (0, omega arith, refl);
       enough = budget_cases (λ s. is_withdrawing s.point ≡ false → found + spine_need old.seat ≤ old.heap.spine) old.heap old.seat found (λ lacks e. absurd (differ e)) (λ grants e. grants) (withdraws false is);
     },
   )
@@ -88,22 +88,22 @@ module _ (old mid : SeatHeld) (words found : ℕ) (begins : BeginsGranting old w
       budget_cases (λ s. is_withdrawing s.point ≡ true → (old.heap.spine < found + spine_need old.seat) × (s ≡ asked_for_too_many old.seat found)) old.heap old.seat found (λ lacks e. (lacks, refl))
       (λ grants e. absurd (differ (sym e ∙ gathers_on old.heap old.seat))) (withdraws true is)
 
-  pub made_steps_are_turned_down : (new : SeatHeld) (found_then : ℕ) (full : SpineFull) → is_withdrawing mid.seat.point ≡ true → IsStepped mid new found_then → ToldAtStep mid.heap mid.number mid.seat found_then
+  pub made_steps_are_turned_down : StepsJoin → (new : SeatHeld) (found_then : ℕ) (full : SpineFull) → is_withdrawing mid.seat.point ≡ true → IsStepped mid new found_then → ToldAtStep mid.heap mid.number mid.seat found_then
       → full.need ≡ words → full.used ≡ found → (made : List Made) × MakesSteps old new made × IsTurnedDown made old.heap full
-  made_steps_are_turned_down new found_then full is stepped_then told_then need_is used_is =
+  made_steps_are_turned_down joined new found_then full is stepped_then told_then need_is used_is =
       let takes_back : Made = record { step = Spine (BudgetTakeBack words); found = found_then } in
       let many = too_many is in
       let due : due_step mid.heap mid.number mid.seat ≡ Some (Spine (BudgetTakeBack words)) =
       ap (λ (s : Seat). due_step mid.heap mid.number s) (asked ∙ many.1) ∙ ap (λ (n : ℕ). Some (Spine (BudgetTakeBack n))) begins.words_are in
       let made = asks ∷ takes_back ∷ [] in (
         made,
-        makes_steps_of_append old mid new (asks ∷ []) (takes_back ∷ []) makes_asked (makes_one_step mid new (Spine (BudgetTakeBack words)) found_then due told_then stepped_then),
+        joined old mid new (asks ∷ []) (takes_back ∷ []) makes_asked (one mid new (Spine (BudgetTakeBack words)) found_then due (record { stepped = stepped_then; told = told_then })),
         record {
           asked = subst (λ (n : ℕ). FoundIn made (Spine (BudgetAdd full.need)) n) (sym used_is)
-              (subst (λ (n : ℕ). FoundIn made (Spine (BudgetAdd n)) found) (sym need_is) (found_in_first_step (takes_back ∷ []) asks));
+              (subst (λ (n : ℕ). FoundIn made (Spine (BudgetAdd n)) found) (sym need_is) (0, omega arith, refl));
           too_many = omega (arith, many.0, begins.words_are, need_is, used_is);
           taken_back = subst (λ (n : ℕ). WasMade (FoundIn made) (Spine (BudgetTakeBack n))) (sym need_is)
-              (found_then, found_in_longer_steps (takes_back ∷ []) asks (Spine (BudgetTakeBack words)) found_then (found_in_first_step [] takes_back));
+              (found_then, (1, omega arith, refl));
         },
       )
 
@@ -113,12 +113,12 @@ array_takes_back (commands.Array d cells) words an_array = refl
 array_takes_back _ words an_array = absurd an_array
 
 -- granted words are taken back
-pub made_steps_take_back : (old new : SeatHeld) (words found : ℕ) → BeginsDropping old words → IsStepped old new found → ToldAtStep old.heap old.number old.seat found
+pub made_steps_take_back : EachStepIsMade → (old new : SeatHeld) (words found : ℕ) → BeginsDropping old words → IsStepped old new found → ToldAtStep old.heap old.number old.seat found
     → (made : List Made) × MakesSteps old new made × WasMade (FoundIn made) (Spine (BudgetTakeBack words))
-made_steps_take_back old new words found begins stepped told =
+made_steps_take_back one old new words found begins stepped told =
     let takes_back : Made = record { step = Spine (BudgetTakeBack words); found = found } in
     let due : due_step old.heap old.number old.seat ≡ Some (Spine (BudgetTakeBack words)) =
     ap (λ (p : Point). option_map (λ (m : Move). m.step) (move_at old.heap old.number old.seat p)) begins.point_is
     ∙ ap (λ (s : Step). Some s) (array_takes_back old.seat.command (spine_need old.seat) begins.an_array)
     ∙ ap (λ (n : ℕ). Some (Spine (BudgetTakeBack n))) begins.words_are in
-    (takes_back ∷ [], makes_one_step old new (Spine (BudgetTakeBack words)) found due told stepped, (found, found_in_first_step [] takes_back))
+    (takes_back ∷ [], one old new (Spine (BudgetTakeBack words)) found due (record { stepped = stepped; told = told }), (found, (0, omega arith, refl)))

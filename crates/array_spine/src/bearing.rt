@@ -10,7 +10,7 @@ ghost use Rattle.array_spine.specs.Bearing.{BeginsPlacing, IsStored};
 use crate::budget::Budget;
 use core_machine::Entries;
 use heap_model::Id;
-use heap_table::Holder;
+use heap_table::{Holder, step_laws};
 
 /// Gives the spine of the array that the call in flight makes its place, stores the words of the spine and then those of the array, bears its fragments, and answers its id.
 pub fn bear_array<L: Entries>(
@@ -32,6 +32,7 @@ pub fn bear_array<L: Entries>(
         seat: holder.number(),
         count: holder.made(),
     };
+    step_laws();
     // What is true of every seat's data is known from here on.
     let _ = holder.party();
     while let Some(step) = holder.due() {

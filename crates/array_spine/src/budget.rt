@@ -12,7 +12,7 @@ ghost use Rattle.heap_table.specs.Made.{Made, FoundIn, MakesSteps};
 ghost use Rattle.array_spine.specs.Granting.{BeginsGranting, BeginsDropping, IsTurnedDown, is_withdrawing as is_withdrawing_at};
 
 use core_machine::{Entries, Making, Point, SpineStep, Step};
-use heap_table::Holder;
+use heap_table::{Holder, step_laws};
 
 /// The spine words that were granted to the array which a call makes.
 #[derive(Drop)]
@@ -50,6 +50,7 @@ pub fn take_budget<L: Entries>(holder: &mut Holder<L>, words: u16) -> Result<Bud
     ensures kept { OnErr result (KeepsAll (kept_of holder.old.seat) (kept_of holder.new.seat)) }
     ensures over { OnErr result (holder.new.seat.point ≡ Idle) }
 {
+    step_laws();
     let used = holder.step(&Step::Spine(SpineStep::BudgetAdd { words }));
     if !is_withdrawing(holder.party().point()) {
         return Ok(Budget { words });
@@ -71,6 +72,7 @@ pub fn drop_budget<L: Entries>(holder: &mut Holder<L>, budget: Budget)
     ensures kept { KeepsAll (kept_of holder.old.seat) (kept_of holder.new.seat) }
     ensures over { holder.new.seat.point ≡ Idle }
 {
+    step_laws();
     let words = budget.words;
     holder.step(&Step::Spine(SpineStep::BudgetTakeBack { words }));
 }

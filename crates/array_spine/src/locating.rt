@@ -5,7 +5,7 @@ ghost use Rattle.object_chain.specs.Walking.{IsAtField};
 ghost use Rattle.array_spine.specs.Locating.{BeginsLocating, IsNamedBySpine};
 
 use core_machine::{Entries, SpineStep, Step};
-use heap_table::Holder;
+use heap_table::{Holder, step_laws};
 use heap_words::Spot;
 use object_chain::Place;
 
@@ -20,6 +20,7 @@ pub fn cell_at<L: Entries>(holder: &mut Holder<L>, sentinel: u16, index: u16) ->
     ensures field { IsPlaceOfField holder.new sentinel index result.fragment result.part }
     ensures room { 3 ≤ holder.new.spare }
 {
+    step_laws();
     let spine = Spot::told(holder.step(&Step::Spine(SpineStep::AddressLoad { sentinel })));
     holder.step(&Step::Spine(SpineStep::WordLoad {
         half: spine.half,

@@ -1,5 +1,5 @@
 -- The two loops of a gather: claims, and give backs of what was claimed.
-use Rattle.std.proofs.Common.{◌≡◌, ℕ, ◌+◌, ◌*◌, ◌<◌, ◌≤◌, true, false, List, [], ◌++◌, length, Option, Some, None, refl, sym, ap, subst, ◌∙◌, arith}
+use Rattle.std.proofs.Common.{◌≡◌, ℕ, ◌+◌, ◌*◌, ◌<◌, ◌≤◌, true, false, List, [], ◌∷◌, ◌++◌, length, Option, Some, None, refl, sym, ap, subst, ◌∙◌, arith}
 use Rattle.std.proofs.lemmas.List.Filters.{length-filter_both}
 use Rattle.heap_model.specs.declared.command.Command.{Command}
 use Rattle.heap_model.specs.declared.heap.Heap.{Heap}
@@ -16,9 +16,9 @@ use Rattle.core_machine.specs.table.Fragments.{in_group, out_of_group, inside_gr
 use Rattle.core_machine.specs.calls.Owes.{owes, owes_making, steps_left}
 use Rattle.core_machine.proofs.seat_lemmas.Fitting.{goes_on_cases, returning_cases, settled_cases}
 use Rattle.heap_table.specs.Made.{Made, MakesSteps, IsSound}
-use Rattle.heap_table.specs.SeatHeld.{SeatHeld, IsStepped}
+use Rattle.heap_table.specs.SeatHeld.{SeatHeld, IsStepped, StepFinds}
+use Rattle.heap_table.specs.StepLaws.{EachMakesNone, OneMoreIsMade, EachStepIsNearer}
 use Rattle.heap_table.specs.Told.{ToldAtStep}
-use Rattle.heap_table.proofs.MadeSteps.{makes_no_steps, step_leaves_fewer, step_leaves_room, step_makes_one_more}
 use Rattle.frag_claim.specs.Begins.{BeginsGathering}
 use Rattle.frag_claim.specs.Due.{due_of_claims, due_of_returns, IsGivingBack, has_its_fragments}
 use Rattle.frag_claim.specs.Gathered.{EndsClaiming}
@@ -70,34 +70,36 @@ pub record WhileClaiming (first now : SeatHeld) : Type 0 where
   pub none_stored : now.seat.stored ≡ 0
   pub room : owes now.seat + 2 ≤ now.spare
 
-pub while_claiming_at_begin : (held : SeatHeld) (reserve : List ℕ) (cursor need_ : ℕ) → BeginsGathering held reserve cursor need_ → 2 * need_ + 4 ≤ held.spare → WhileClaiming held held
-while_claiming_at_begin held reserve cursor need_ begins room =
+pub while_claiming_at_begin : EachMakesNone → (held : SeatHeld) (reserve : List ℕ) (cursor need_ : ℕ) → BeginsGathering held reserve cursor need_ → 2 * need_ + 4 ≤ held.spare → WhileClaiming held held
+while_claiming_at_begin none held reserve cursor need_ begins room =
     let start = goes_claiming held.heap begins.before begins.rests.none_given begins.rests.none_stored in
     let has : HasClaims held.seat = subst HasClaims (sym begins.goes_on) start in
     let owed : owes held.seat ≤ 2 * need_ + 2 = subst (λ (s : Seat). owes s ≤ 2 * need_ + 2) (sym begins.goes_on)
     (subst (λ (n : ℕ). owes (gather_next held.heap begins.before) ≤ 2 * n + 2) begins.need_is (goes_with_room held.heap begins.before begins.rests.empty_hand)) in
-    record { steps = ([], makes_no_steps held); stands = has.0; none_given = has.1; none_stored = has.2; room = at_most (owes held.seat) need_ held.spare owed room }
+    record { steps = ([], none held); stands = has.0; none_given = has.1; none_stored = has.2; room = at_most (owes held.seat) need_ held.spare owed room }
   where
     at_most : (owed n spare : ℕ) → owed ≤ 2 * n + 2 → 2 * n + 4 ≤ spare → owed + 2 ≤ spare
     at_most owed n spare a b = omega arith
 
-pub while_claiming_after_step : (first now new : SeatHeld) (step : Step) (found : ℕ) → IsSound now → WhileClaiming first now → due_of_claims now.seat.point (due_step now.heap now.number now.seat) ≡ Some step
+pub while_claiming_after_step : OneMoreIsMade → EachStepIsNearer → (first now new : SeatHeld) (step : Step) (found : ℕ) → IsSound now → WhileClaiming first now → due_of_claims now.seat.point (due_step now.heap now.number now.seat) ≡ Some step
     → IsStepped now new found → ToldAtStep now.heap now.number now.seat found → WhileClaiming first new × (steps_left new.heap new.seat < steps_left now.heap now.seat)
-while_claiming_after_step first now new step found sound while is stepped told =
+while_claiming_after_step more nearer first now new step found sound while is stepped told =
+    let finds : StepFinds now new found = record { stepped = stepped; told = told } in
     let at = of_claims now.seat.point (due_step now.heap now.number now.seat) step is in
+    let near = nearer now new step found sound at.1 finds in
     let group = next_group_of now.heap now.seat in
     let next : Seat = record now.seat { hand = now.seat.hand ++ clear_in group found; tried = now.seat.tried + 1 } in
     let claimed : new.seat ≡ with_entries (gather_next now.heap next) (takes_some now.number (length (clear_in group found))) =
     stepped.seat_is ∙ ap (λ (p : Point). seat_after_due now.seat (move_at now.heap now.number now.seat p) found) at.0 in
     let has : HasClaims new.seat = subst HasClaims (sym claimed) (goes_claiming now.heap next while.none_given while.none_stored) in (
       record {
-        steps = step_makes_one_more first now new step found sound at.1 stepped told while.steps;
+        steps = (while.steps.0 ++ record { step = step; found = found } ∷ [], more first now new while.steps.0 step found while.steps.1 at.1 finds);
         stands = has.0;
         none_given = has.1;
         none_stored = has.2;
-        room = step_leaves_room first now new step found sound at.1 stepped told while.room;
+        room = omega (arith, while.room, near.paid, stepped.room_stays);
       },
-      step_leaves_fewer first now new step found sound at.1 stepped told,
+      near.fewer,
     )
 
 -- once no claim is due
@@ -144,13 +146,15 @@ returning_room seat (points.Making GivingBack) spare is stands room = subst (λ 
 returning_room seat (points.Making Refusing) spare is stands room = subst (λ (p : Point). Rattle.core_machine.specs.calls.Owes.owes_at seat p + 2 ≤ spare) (sym is) (omega (arith, room))
 returning_room seat _ spare is stands room = absurd stands
 
-pub while_returning_at_begin : (held : SeatHeld) → IsGivingBack held.seat.point → length held.seat.hand + 3 ≤ held.spare → WhileGivingBack held held
-while_returning_at_begin held stands room = record { steps = ([], makes_no_steps held); stands = stands; all = refl; room = returning_room held.seat held.seat.point held.spare refl stands room }
+pub while_returning_at_begin : EachMakesNone → (held : SeatHeld) → IsGivingBack held.seat.point → length held.seat.hand + 3 ≤ held.spare → WhileGivingBack held held
+while_returning_at_begin none held stands room = record { steps = ([], none held); stands = stands; all = refl; room = returning_room held.seat held.seat.point held.spare refl stands room }
 
-pub while_returning_after_step : (first now new : SeatHeld) (step : Step) (found : ℕ) → IsSound now → WhileGivingBack first now → due_of_returns now.seat.point (due_step now.heap now.number now.seat) ≡ Some step
+pub while_returning_after_step : OneMoreIsMade → EachStepIsNearer → (first now new : SeatHeld) (step : Step) (found : ℕ) → IsSound now → WhileGivingBack first now → due_of_returns now.seat.point (due_step now.heap now.number now.seat) ≡ Some step
     → IsStepped now new found → ToldAtStep now.heap now.number now.seat found → WhileGivingBack first new × (steps_left new.heap new.seat < steps_left now.heap now.seat)
-while_returning_after_step first now new step found sound while is stepped told =
+while_returning_after_step more nearer first now new step found sound while is stepped told =
+    let finds : StepFinds now new found = record { stepped = stepped; told = told } in
     let at = of_returns now.seat.point (due_step now.heap now.number now.seat) step is in
+    let near = nearer now new step found sound at.1 finds in
     let group = first_group_of now.seat.hand in
     let given : new.seat ≡ with_entries (after_give_back now.seat) ((give_back_move now.number now.seat).adds found) =
     stepped.seat_is ∙ ap (λ (p : Point). seat_after_due now.seat (move_at now.heap now.number now.seat p) found) at.0 in
@@ -158,12 +162,12 @@ while_returning_after_step first now new step found sound while is stepped told 
     let stands : IsGivingBack (after_give_back now.seat).point = returning_cases (λ m. IsGivingBack (points.Making m)) (outside_group group now.seat.hand) (λ none. tt) (λ some. tt) in
     let all : length (outside_group group now.seat.hand) + (now.seat.given + length (inside_group group now.seat.hand)) ≡ length first.seat.hand + first.seat.given = omega (arith, both, while.all) in (
       record {
-        steps = step_makes_one_more first now new step found sound at.1 stepped told while.steps;
+        steps = (while.steps.0 ++ record { step = step; found = found } ∷ [], more first now new while.steps.0 step found while.steps.1 at.1 finds);
         stands = subst (λ (s : Seat). IsGivingBack s.point) (sym given) stands;
         all = subst (λ (s : Seat). length s.hand + s.given ≡ length first.seat.hand + first.seat.given) (sym given) all;
-        room = step_leaves_room first now new step found sound at.1 stepped told while.room;
+        room = omega (arith, while.room, near.paid, stepped.room_stays);
       },
-      step_leaves_fewer first now new step found sound at.1 stepped told,
+      near.fewer,
     )
 
 -- once none is due all was given back

@@ -1,6 +1,7 @@
 -- What a gather comes to, by whatever steps it was made.
-use Rattle.std.proofs.Common.{◌≡◌, ℕ, ◌+◌, ◌%◌, ◌<◌, ◌≤◌, true, false, List, [], ◌++◌, length, take, drop, refl, sym, ap, subst, ◌∙◌, inl, inr, append-nil, length-take, length-append, arith}
-use Rattle.heap_model.specs.Needs.{need_of}
+use Rattle.std.proofs.Common.{◌≡◌, ℕ, ◌+◌, ◌%◌, ◌<◌, ◌≤◌, true, false, List, [], ◌∷◌, ◌++◌, length, take, drop, refl, sym, ap, subst, ◌∙◌, inl, inr, append-nil, length-take, length-append, arith}
+use Rattle.std.proofs.lemmas.List.Elements.{Contains-append_cases, Contains-push_cases}
+use Rattle.heap_model.specs.Needs.{need_of, spine_need_of}
 use Rattle.heap_model.specs.declared.command.Command.{Command}
 use Rattle.heap_model.specs.declared.entry.Entry.{Entry}
 use Rattle.heap_model.specs.declared.heap.Heap.{Heap}
@@ -11,8 +12,10 @@ use Rattle.core_machine.specs.calls.OwnStage.{StageAt, OwnStage}
 use Rattle.core_machine.specs.declared.point.Making.TheVariants.{Refusing, Placing, Storing}
 use Rattle.core_machine.specs.declared.point.Point.{Point}
 use Rattle.core_machine.specs.declared.point.Point.TheVariants as points
+use Rattle.core_machine.specs.declared.step.MakingStep.TheVariants.{Claim}
+use Rattle.core_machine.specs.declared.step.SpineStep.TheVariants.{BudgetAdd}
 use Rattle.core_machine.specs.declared.step.Step.{Step}
-use Rattle.core_machine.specs.declared.step.Step.TheVariants.{Making}
+use Rattle.core_machine.specs.declared.step.Step.TheVariants.{Making, Spine}
 use Rattle.core_machine.specs.seat.Commands.{IsArrayCall}
 use Rattle.core_machine.specs.seat.Fits.{FitsPoint}
 use Rattle.core_machine.specs.seat.Making.{settled_point, gather_next}
@@ -23,35 +26,54 @@ use Rattle.core_machine.proofs.own_stages.Claiming.{gathers_without_claim}
 use Rattle.core_machine.proofs.own_stages.Gather.{going_on_keeps_command, stage_stands_going_on}
 use Rattle.core_machine.proofs.seat_lemmas.Fitting.{object_need_within_limits}
 use Rattle.core_machine.proofs.table_lemmas.Free.{claimed_group_has_none_clear}
-use Rattle.heap_table.specs.Made.{Made, MakesSteps, IsSound}
+use Rattle.heap_table.specs.Made.{Made, FoundIn, MakesSteps, IsSound}
 use Rattle.heap_table.specs.SeatHeld.{SeatHeld}
-use Rattle.heap_table.proofs.MadeSteps.{stage_stands_along_steps, TellsHere, found_in_made_steps}
+use Rattle.heap_table.specs.StepLaws.{EachStageGoesAlong}
 use Rattle.frag_claim.specs.Begins.{BeginsGathering}
 use Rattle.frag_claim.specs.Due.{has_its_fragments}
 use Rattle.frag_claim.specs.Gathered.{IsClaimed, HasGathered, IsExhausted, HasItsFragments, EndsClaiming}
 
+-- what another step found than the one before these was found by one of these
+found_behind : (asked : Made) (made : List Made) (step : Step) (word : ℕ) → (asked.step ≡ step → ⊥) → FoundIn (asked ∷ made) step word → FoundIn made step word
+found_behind asked made step word other here =
+    elim (Contains-append_cases (asked ∷ []) made (record { step = step; found = word }) here) as (λ _. FoundIn made step word) [ inl first ↦ absurd (apart first) | inr later ↦ later ]
+  where
+    apart : FoundIn (asked ∷ []) step word → ⊥
+    apart first = elim (Contains-push_cases [] asked (record { step = step; found = word }) first) as (λ _. ⊥) [ inl none ↦ past none | inr same ↦ other (ap (λ (m : Made). m.step) same) ]
+      where
+        past : FoundIn [] step word → ⊥
+        past none = let inside : none.0 < 0 = none.1 in omega (arith, inside)
+
+-- the words were asked for before, and so many were found to be in use
+abbrev asked_for : ℕ → Made
+asked_for words = record { step = Spine (BudgetAdd words); found = 0 }
+
 -- a claim was made here
-is_claimed : (made : List Made) (claimed : List ℕ) (group : ℕ) → ClaimsGroup (TellsHere made) claimed group → IsClaimed made claimed group
-is_claimed made claimed group claims = record {
-  claim = record { word = claims.word; told = found_in_made_steps made _ claims.word (λ asks. asks) claims.told; got = claims.got };
+is_claimed : (words : ℕ) (made : List Made) (claimed : List ℕ) (group : ℕ) → ClaimsGroup (FoundIn (asked_for words ∷ made)) claimed group → IsClaimed made claimed group
+is_claimed words made claimed group claims = record {
+  claim = record { word = claims.word; told = found_behind (asked_for words) made (Making (Claim group)) claims.word (λ e. cc) claims.told; got = claims.got };
   leaves = claimed_group_has_none_clear group claims.word;
 }
 
 no_entries : (seat : Seat) → with_entries seat [] ≡ seat
 no_entries seat = ap (λ (mine : List Entry). record seat { mine = mine }) (append-nil seat.mine)
 
-module _ (made : List Made) (old new : SeatHeld) (reserve : List ℕ) (cursor need_ : ℕ) (begins : BeginsGathering old reserve cursor need_) (sound : IsSound old) (makes : MakesSteps old new made) where
+module _ (along : EachStageGoesAlong) (made : List Made) (old new : SeatHeld) (reserve : List ℕ) (cursor need_ : ℕ) (begins : BeginsGathering old reserve cursor need_) (sound : IsSound old) (makes : MakesSteps old new made) where
   abbrev before : Seat
   before = begins.before
 
+  -- it asked for the spine words of its object before
+  abbrev words : ℕ
+  words = spine_need_of before.command
+
   abbrev tells : Step → ℕ → Type 0
-  tells = TellsHere made
+  tells = FoundIn (asked_for words ∷ made)
 
   -- the call stands so where the gather begins
   begins_so : OwnStage tells old.heap old.number before.command before old.seat []
   begins_so =
       let next = gather_next old.heap before in
-      let granted : IsArrayCall before.command → IsGranted tells old.heap before.command = λ an_array. record { word = 0; told = inr tt; enough = omega (arith, begins.granted an_array) } in
+      let granted : IsArrayCall before.command → IsGranted tells old.heap before.command = λ an_array. record { word = 0; told = (0, omega arith, refl); enough = omega (arith, begins.granted an_array) } in
       let few : length before.reserve ≤ 15 = omega (arith, begins.few, ap (length {A = ℕ}) begins.reserve_is) in
       let none = gathers_without_claim tells old.heap old.number before.command (kept_of before) before.hand before.tried [] granted few begins.rests.empty_hand begins.rests.none_tried refl in
       let on = stage_stands_going_on tells old.heap old.number before [] [] begins.rests.none_given begins.rests.none_stored none in
@@ -63,8 +85,7 @@ module _ (made : List Made) (old new : SeatHeld) (reserve : List ℕ) (cursor ne
 
   -- and so where it has ended
   ends_so : (told : List Entry) × OwnStage tells old.heap old.number before.command before new.seat told
-  ends_so = stage_stands_along_steps tells old.heap old.number before.command before sound.limits (omega (arith, sound.within, sound.limits.seats_fit)) made old.seat new.seat [] sound.fits makes.leads
-      (λ step word here. inl here) begins_so
+  ends_so = along (asked_for words ∷ []) made old.heap old.number before.command before old.seat new.seat [] sound.limits (omega (arith, sound.within, sound.limits.seats_fit)) sound.fits makes.leads begins_so
 
   -- the object has its fragments
   object_at : (point : Point) (told : List Entry) → has_its_fragments point ≡ true → StageAt tells old.heap old.number (kept_of before) new.seat told point
@@ -92,7 +113,7 @@ module _ (made : List Made) (old new : SeatHeld) (reserve : List ℕ) (cursor ne
         claims = record {
           few = object.gathered.few;
           of_tried = subst (λ (n : ℕ). AreOfTried old.heap.groups n object.tried object.claimed) begins.cursor_is object.gathered.of_tried;
-          claims = λ i below. is_claimed made object.claimed ((cursor + i) % old.heap.groups)
+          claims = λ i below. is_claimed words made object.claimed ((cursor + i) % old.heap.groups)
               (subst (λ (n : ℕ). ClaimsGroup tells object.claimed ((n + i) % old.heap.groups)) begins.cursor_is (object.gathered.claims i below));
         };
         hand_is = object.body_is ∙ ap (λ (n : ℕ). take n (before.reserve ++ object.claimed)) need_is ∙ ap (λ (l : List ℕ). take need_ (l ++ object.claimed)) begins.reserve_is;
@@ -129,7 +150,7 @@ module _ (made : List Made) (old new : SeatHeld) (reserve : List ℕ) (cursor ne
         record {
           claimed = up.claimed;
           every = λ group below. holds_of_every_group old.heap.groups cursor old.heap.groups group (IsClaimed made up.claimed) within (omega arith) below
-              (λ i less. is_claimed made up.claimed ((cursor + i) % old.heap.groups)
+              (λ i less. is_claimed words made up.claimed ((cursor + i) % old.heap.groups)
               (subst (λ (n : ℕ). ClaimsGroup tells up.claimed ((n + i) % old.heap.groups)) begins.cursor_is (up.gathered.claims i less)));
           found_is = omega (arith, counted, all, none);
         },

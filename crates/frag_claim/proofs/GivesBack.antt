@@ -15,7 +15,7 @@ use Rattle.core_machine.specs.table.Fragments.{mask_of}
 use Rattle.heap_table.specs.Made.{Made, FoundIn, LeadsTo, MakesSteps}
 use Rattle.heap_table.specs.SeatHeld.{SeatHeld, IsStepped}
 use Rattle.heap_table.specs.Told.{ToldAtStep}
-use Rattle.heap_table.proofs.MadeSteps.{makes_one_step, found_in_first_step}
+use Rattle.heap_table.specs.StepLaws.{EachStepIsMade}
 use Rattle.frag_claim.specs.Begins.{BeginsEmptying}
 use Rattle.frag_claim.specs.Due.{due_of_emptying}
 use Rattle.frag_claim.specs.Emptied.{GivesBackReserve}
@@ -26,10 +26,10 @@ of_emptying (points.Leaving Emptying) due step e = (refl, e)
 of_emptying _ due step e = cc
 
 -- by the step
-pub give_back_makes_step : (old new : SeatHeld) (step : Step) (found : ℕ) → due_of_emptying old.seat.point (due_step old.heap old.number old.seat) ≡ Some step → IsStepped old new found
+pub give_back_makes_step : EachStepIsMade → (old new : SeatHeld) (step : Step) (found : ℕ) → due_of_emptying old.seat.point (due_step old.heap old.number old.seat) ≡ Some step → IsStepped old new found
     → ToldAtStep old.heap old.number old.seat found → (made : List Made) × MakesSteps old new made
-give_back_makes_step old new step found due stepped told =
-    (record { step = step; found = found } ∷ [], makes_one_step old new step found (of_emptying old.seat.point (due_step old.heap old.number old.seat) step due).1 told stepped)
+give_back_makes_step one old new step found due stepped told =
+    (record { step = step; found = found } ∷ [], one old new step found (of_emptying old.seat.point (due_step old.heap old.number old.seat) step due).1 (record { stepped = stepped; told = told }))
 
 -- a seat with a reserve isn't where it would be without one
 none_left : (reserve : List ℕ) → 0 < length reserve → leave_point reserve ≡ Emptying
@@ -68,7 +68,7 @@ gives_back_whole_reserve old new reserve begins empty made makes = λ some. by m
         let due : Some (Making (GiveBack old.seat.cursor (mask_of old.seat.reserve))) ≡ Some m.step =
         sym (ap (λ (p : Point). option_map (λ (v : Move). v.step) (move_at old.heap old.number old.seat p)) point) ∙ leads.0 in
         let is : m.step ≡ Making (GiveBack old.seat.cursor (mask_of reserve)) = same_step due ∙ ap (λ (l : List ℕ). Making (GiveBack old.seat.cursor (mask_of l))) begins.reserve_is in
-        (m.found, subst (λ (s : Step). FoundIn (m ∷ more) s m.found) is (found_in_first_step more m))
+        (m.found, subst (λ (s : Step). FoundIn (m ∷ more) s m.found) is (0, omega arith, refl))
       where
         same_step : {a b : Step} → Some a ≡ Some b → b ≡ a
         same_step e = cc

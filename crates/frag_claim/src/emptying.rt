@@ -9,7 +9,7 @@ ghost use Rattle.frag_claim.specs.Emptied.{GivesBackReserve};
 
 use crate::held::Reserve;
 use core_machine::{Entries, Leaving, Point, Step};
-use heap_table::Holder;
+use heap_table::{Holder, step_laws};
 
 /// The step that gives back the reserve, where it is due.
 fn due_of_emptying<L: Entries>(holder: &Holder<L>) -> Option<Step>
@@ -33,6 +33,7 @@ pub fn give_back<L: Entries>(holder: &mut Holder<L>, reserve: &mut Reserve)
     ensures point { holder.new.seat.point ≡ Leaves Parting }
     ensures room { 3 ≤ holder.new.spare }
 {
+    step_laws();
     if let Some(step) = due_of_emptying(holder) {
         holder.step(&step);
     }

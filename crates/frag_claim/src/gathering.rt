@@ -10,7 +10,7 @@ ghost use Rattle.frag_claim.specs.Gathered.{EndsClaiming, HasGathered, HasItsFra
 use crate::held::{Hand, Reserve, refill};
 use core_machine::{Entries, Making, Point, SeatParty, Step};
 use heap_model::Full;
-use heap_table::Holder;
+use heap_table::{Holder, step_laws};
 
 /// The claim that is due, while too little is gathered and some group wasn't claimed.
 fn due_of_claims<L: Entries>(holder: &Holder<L>) -> Option<Step>
@@ -43,6 +43,7 @@ fn claim_groups<L: Entries>(holder: &mut Holder<L>, reserve: &Reserve, need: u16
     ensures begun { IsSound holder.old }
     ensures sound { IsSound holder.new }
 {
+    step_laws();
     // What is true of every seat's data is known from here on.
     let _ = holder.party();
     while let Some(step) = due_of_claims(holder) {
@@ -60,6 +61,7 @@ fn return_groups<L: Entries>(holder: &mut Holder<L>)
     ensures sound { IsSound holder.new }
     ensures room { 3 ≤ holder.new.spare }
 {
+    step_laws();
     while let Some(step) = due_of_returns(holder) {
         holder.step(&step);
     }
@@ -109,6 +111,7 @@ pub fn gather<L: Entries>(
     ensures refusing { OnErr result (holder.new.seat.point ≡ Makes Refusing) }
     ensures room { 3 ≤ holder.new.spare }
 {
+    step_laws();
     claim_groups(holder, reserve, need);
     if has_its_fragments(holder.party().point()) {
         take_over(holder.party(), reserve, hand);

@@ -15,6 +15,7 @@ pub mod CollectorHolders
 pub mod ManyTurns
 pub mod Histories
 pub mod MadeSteps
+pub mod Since
 pub mod OneGo
 pub mod Ways
 pub mod Shades

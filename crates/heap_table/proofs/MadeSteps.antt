@@ -1,14 +1,13 @@
 -- Steps that a seat has made: they go on by one more, one list of them behind another, and the call stands after them as it is to.
-use Rattle.std.proofs.Common.{suc, ◌≡◌, ℕ, ◌+◌, ◌<◌, ◌≤◌, List, [], ◌∷◌, ◌++◌, length, Option, Some, None, refl, sym, ap, subst, ◌∙◌, inl, inr, append-nil, append_assoc, length-append, arith}
-use Rattle.std.specs.Prelude.{IfSome, ◌⊎◌, option_map, replicate}
+use Rattle.std.proofs.Common.{◌≡◌, ℕ, ◌+◌, ◌<◌, ◌≤◌, List, [], ◌∷◌, ◌++◌, length, Option, Some, None, refl, sym, ap, subst, ◌∙◌, append-nil, append_assoc, length-append, arith}
+use Rattle.std.specs.Prelude.{IfSome, option_map, replicate}
 use Rattle.std.proofs.lemmas.List.{get_or_push, length-replicate}
+use Rattle.std.proofs.lemmas.List.Elements.{Contains-append_left, Contains-append_right, Contains-push}
 use Rattle.heap_model.specs.Heap.{IsHeap}
 use Rattle.heap_model.specs.declared.command.Command.{Command}
 use Rattle.heap_model.specs.declared.entry.Entry.{Entry}
 use Rattle.heap_model.specs.declared.heap.Heap.{Heap}
-use Rattle.core_machine.specs.declared.step.SpineStep.TheVariants.{BudgetAdd}
 use Rattle.core_machine.specs.declared.step.Step.{Step}
-use Rattle.core_machine.specs.declared.step.Step.TheVariants.{Spine}
 use Rattle.core_machine.specs.declared.table.address.Address.{Address}
 use Rattle.core_machine.specs.Moves.{Move, next_move, due_step, seat_after_due}
 use Rattle.core_machine.specs.calls.OwnStage.{OwnStage}
@@ -26,7 +25,8 @@ use Rattle.core_rule.specs.cycle.Flight.{WhileAccess}
 use Rattle.core_rule.specs.told.Reached.{HasReached}
 use Rattle.heap_table.specs.Begun.{next_seat}
 use Rattle.heap_table.specs.Made.{Made, FoundIn, LeadsTo, MakesSteps, IsSound}
-use Rattle.heap_table.specs.SeatHeld.{SeatHeld, IsStepped}
+use Rattle.heap_table.specs.SeatHeld.{SeatHeld, IsStepped, StepFinds}
+use Rattle.heap_table.specs.StepLaws.{IsNearer}
 use Rattle.heap_table.specs.Told.{ToldAtStep}
 use Rattle.heap_table.proofs.SeatSteps.{at_is_read_at_index}
 
@@ -73,15 +73,10 @@ while_access_has_reached old new found stepped told =
 
 -- each of the steps is one of these and those
 pub found_in_longer_steps : (made : List Made) (m : Made) (step : Step) (word : ℕ) → FoundIn made step word → FoundIn (m ∷ made) step word
-found_in_longer_steps made m step word there = let inside = there.1 in (suc there.0, omega arith, there.2)
+found_in_longer_steps made m step word there = Contains-append_right (m ∷ []) made (record { step = step; found = word }) there
 
 pub found_in_first_step : (made : List Made) (m : Made) → FoundIn (m ∷ made) m.step m.found
-found_in_first_step made m = (0, omega arith, refl)
-
--- no step is due any more
-pub no_step_is_due : (due : Option Step) → ((step : Step) → due ≡ Some step → ⊥) → due ≡ None
-no_step_is_due None none = refl
-no_step_is_due (Some step) none = absurd (none step refl)
+found_in_first_step made m = Contains-append_left (m ∷ []) made m (Contains-push [] m)
 
 -- some words have this one at an address
 some_words : (heap : Heap) (a : Address) (found : ℕ) → (words : List ℕ) × (at heap words a ≡ found)
@@ -121,41 +116,44 @@ module _ (heap : Heap) (number : ℕ) (seat : Seat) (limits : IsHeap heap) (few 
       → OwnStage tells heap number command old seat told → (more : List Entry) × OwnStage tells heap number command old (next_seat heap number seat found) (told ++ more)
   stage_stands_after_step tells command old told step found due tell stage = on_by tells command old told (next_move heap number seat) step found refl due tell stage
 
--- a holder goes on by one step
-module _ (first now new : SeatHeld) (step : Step) (found : ℕ) (sound : IsSound now) (due : due_step now.heap now.number now.seat ≡ Some step)
-    (stepped : IsStepped now new found) (told : ToldAtStep now.heap now.number now.seat found) where
-  -- fewer steps are left, and no more entries are added than were owed
-  nears : (steps_left now.heap new.seat < steps_left now.heap now.seat) × (owes new.seat + length new.seat.mine ≤ owes now.seat + length now.seat.mine)
-  nears = step_nears_end now.heap now.number now.seat sound.limits (omega (arith, sound.within, sound.limits.seats_fit)) sound.fits step found new.seat due stepped.seat_is
+-- one step behind those that were made
+pub makes_one_more : (first now new : SeatHeld) (made : List Made) (step : Step) (found : ℕ) → MakesSteps first now made → due_step now.heap now.number now.seat ≡ Some step → StepFinds now new found
+    → MakesSteps first new (made ++ record { step = step; found = found } ∷ [])
+makes_one_more first now new made step found makes due finds =
+    makes_steps_of_append first now new made (record { step = step; found = found } ∷ []) makes (makes_one_step now new step found due finds.told finds.stepped)
 
-  pub step_leaves_fewer : steps_left new.heap new.seat < steps_left now.heap now.seat
-  step_leaves_fewer = subst (λ (h : Heap). steps_left h new.seat < steps_left now.heap now.seat) (sym stepped.heap_stays) nears.0
+-- a holder's call is nearer to its end after its step
+pub step_is_nearer : (old new : SeatHeld) (step : Step) (found : ℕ) → IsSound old → due_step old.heap old.number old.seat ≡ Some step → StepFinds old new found → IsNearer old new
+step_is_nearer old new step found sound due finds =
+    let near = step_nears_end old.heap old.number old.seat sound.limits (omega (arith, sound.within, sound.limits.seats_fit)) sound.fits step found new.seat due finds.stepped.seat_is in
+    record { fewer = subst (λ (h : Heap). steps_left h new.seat < steps_left old.heap old.seat) (sym finds.stepped.heap_stays) near.0; paid = near.1 }
 
-  pub step_leaves_room : owes now.seat + 2 ≤ now.spare → owes new.seat + 2 ≤ new.spare
-  step_leaves_room room = omega (arith, room, nears.1, stepped.room_stays)
+-- the data fit together after all these steps
+fits_along : (heap : Heap) (number : ℕ) (first now : Seat) (made : List Made) → Fits heap first → LeadsTo heap number first made now → Fits heap now
+fits_along heap number first now [] fits leads = subst (Fits heap) (sym leads) fits
+fits_along heap number first now (m ∷ made) fits leads = fits_along heap number (next_seat heap number first m.found) now made leads.1.fits leads.2
 
-  pub step_owes_within_most : (most : ℕ) → owes now.seat + length now.seat.mine ≤ most → owes new.seat + length new.seat.mine ≤ most
-  step_owes_within_most most paid = omega (arith, paid, nears.1)
+pub stays_sound_along_steps : (old new : SeatHeld) (made : List Made) → IsSound old → MakesSteps old new made → IsSound new
+stays_sound_along_steps old new made sound makes = record {
+  limits = subst IsHeap (sym makes.heap_stays) sound.limits;
+  within = omega (arith, sound.within, makes.number_stays, ap (λ (h : Heap). h.seats) makes.heap_stays);
+  fits = subst (λ (h : Heap). Fits h new.seat) (sym makes.heap_stays) (fits_along old.heap old.number old.seat new.seat made sound.fits makes.leads);
+}
 
-  -- one step more was made
-  pub step_makes_one_more : ((made : List Made) × MakesSteps first now made) → (made : List Made) × MakesSteps first new made
-  step_makes_one_more steps =
-      let one = record { step = step; found = found } ∷ [] in
-      (steps.0 ++ one, makes_steps_of_append first now new steps.0 one steps.1 (makes_one_step now new step found due told stepped))
+-- what a call owes and what its seat has told grow by no step
+owes_no_more : (heap : Heap) (number : ℕ) → IsHeap heap → number < 16 → (first now : Seat) → Fits heap first → (made : List Made) → LeadsTo heap number first made now
+    → owes now + length now.mine ≤ owes first + length first.mine
+owes_no_more heap number limits few first now fits [] leads = subst (λ (s : Seat). owes s + length s.mine ≤ owes first + length first.mine) (sym leads) (omega arith)
+owes_no_more heap number limits few first now fits (m ∷ made) leads =
+    let near = step_nears_end heap number first limits few fits m.step m.found (next_seat heap number first m.found) leads.0 refl in
+    let rest = owes_no_more heap number limits few (next_seat heap number first m.found) now leads.1.fits made leads.2 in
+    omega (arith, near.1, rest)
 
--- the step asks for an array's spine words
-abbrev pub AsksForWords : Step → Type 0
-AsksForWords (Spine (BudgetAdd words)) = Unit {0}
-AsksForWords _ = ⊥
-
--- the step is one of these, or it asked for the words before them
-abbrev pub TellsHere : List Made → Step → ℕ → Type 0
-TellsHere made step word = FoundIn made step word ⊎ AsksForWords step
-
--- another step is one of these
-pub found_in_made_steps : (made : List Made) (step : Step) (word : ℕ) → (AsksForWords step → ⊥) → TellsHere made step word → FoundIn made step word
-found_in_made_steps made step word other (inl here) = here
-found_in_made_steps made step word other (inr asks) = absurd (other asks)
+-- so the room that was enough is enough for what is still owed
+pub room_is_left_along_steps : (old new : SeatHeld) (made : List Made) → IsSound old → MakesSteps old new made → owes old.seat + 2 ≤ old.spare → owes new.seat + 2 ≤ new.spare
+room_is_left_along_steps old new made sound makes room =
+    let owed = owes_no_more old.heap old.number sound.limits (omega (arith, sound.within, sound.limits.seats_fit)) old.seat new.seat sound.fits made makes.leads in
+    omega (arith, owed, room, makes.room_stays)
 
 -- a call that stands so stands after all these steps as it is to, where so much is told of each of them
 pub stage_stands_along_steps : (tells : Step → ℕ → Type 0) (heap : Heap) (number : ℕ) (command : Command) (old : Seat) → IsHeap heap → number < 16

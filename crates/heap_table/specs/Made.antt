@@ -6,6 +6,7 @@ use Rattle.core_machine.specs.declared.step.Step.{Step}
 use Rattle.core_machine.specs.Moves.{due_step}
 use Rattle.core_machine.specs.seat.Fits.{Fits}
 use Rattle.core_machine.specs.seat.Seat.{Seat}
+use Rattle.core_rule.specs.told.Found.{TellsWord}
 use Rattle.heap_table.specs.Begun.{next_seat}
 use Rattle.heap_table.specs.SeatHeld.{SeatHeld}
 use Rattle.heap_table.specs.Told.{ToldAtStep}
@@ -24,6 +25,10 @@ pub record Made : Type 0 where
 -- this step was made, and found this word
 abbrev pub FoundIn : List Made → Step → ℕ → Type 0
 FoundIn steps step word = Contains steps (record { step = step; found = word })
+
+-- one of the steps found this word, of which the rule tells so much by what the seat had when its call began
+abbrev pub ToldIn : SeatHeld → List Made → Step → ℕ → Type 0
+ToldIn old made step word = FoundIn made step word × TellsWord old.heap old.number old.seat step word
 
 -- each of the steps was due when it was made, and they led from the old seat to the new one
 abbrev pub LeadsTo : Heap → ℕ → Seat → List Made → Seat → Type 0

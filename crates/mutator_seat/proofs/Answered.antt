@@ -20,13 +20,13 @@ use Rattle.core_machine.proofs.moves.{begin_stands}
 use Rattle.core_machine.proofs.moves.Standing.{BeginStands}
 use Rattle.core_machine.proofs.own_stages.{own_begins}
 use Rattle.core_machine.proofs.own_stages.End.{own_answered, comes_before}
-use Rattle.heap_table.specs.Made.{Made, MakesSteps, IsSound}
+use Rattle.heap_table.specs.Made.{Made, ToldIn, MakesSteps, IsSound}
 use Rattle.heap_table.specs.SeatHeld.{SeatHeld}
-use Rattle.mutator_seat.specs.Calls.{begun, ToldIn, MakesCall}
+use Rattle.heap_table.specs.StepLaws.{EachStageIsTold}
+use Rattle.mutator_seat.specs.Calls.{begun, MakesCall}
 use Rattle.mutator_seat.specs.Resting.{Rests}
 use Rattle.mutator_seat.proofs.Causes.{keeps_whole_where_refused, reply_has_its_cause}
 use Rattle.mutator_seat.proofs.KeptOn.{call_counts_so}
-use Rattle.mutator_seat.proofs.Since.{stage_stands_since}
 
 module _ (old : SeatHeld) (command : Command) (rests : Rests old) (may : MayBegin old.seat command) where
   abbrev sound : IsSound old
@@ -45,13 +45,13 @@ module _ (old : SeatHeld) (command : Command) (rests : Rests old) (may : MayBegi
       enough : (owed need room : ℕ) → owed ≤ 2 * need + 2 → 2 * need + 4 ≤ room → owed + 2 ≤ room
       enough owed need room a b = omega arith
 
-  module _ (new : SeatHeld) (made : List Made) (makes : MakesSteps (begun old command) new made) (over : new.seat.point ≡ Idle) where
+  module _ (told : EachStageIsTold) (new : SeatHeld) (made : List Made) (makes : MakesSteps (begun old command) new made) (over : new.seat.point ≡ Idle) where
     abbrev tells : Step → ℕ → Type 0
     tells = ToldIn old made
 
     ends : (told : List Entry) × OwnStage tells old.heap old.number command old.seat new.seat told
-    ends = stage_stands_since old.heap old.number old.seat tells command sound.limits (omega (arith, sound.within, sound.limits.seats_fit)) made (begun old command).seat new.seat [] stands.fits makes.leads
-        (λ step word found told. (found, told)) (own_begins tells old.heap old.number old.seat command sound.limits sound.fits may)
+    ends = told old made command (begun old command).seat new.seat [] sound.limits (omega (arith, sound.within, sound.limits.seats_fit)) stands.fits makes.leads
+        (own_begins tells old.heap old.number old.seat command sound.limits sound.fits may)
 
     answered : IsAnswered tells old.heap old.number command (kept_of old.seat) (kept_of new.seat) ends.0
     answered = own_answered tells old.heap old.number command old.seat new.seat ends.0 ends.1 over

@@ -16,10 +16,10 @@ use Rattle.core_machine.specs.seat.Seat.{Seat}
 use Rattle.core_machine.proofs.call_lemmas.GoingOn.{holds_of_every_group}
 use Rattle.core_machine.proofs.call_lemmas.RepliesAlone.{refusal_leaves_registers, refusal_leaves_seen}
 use Rattle.core_machine.proofs.table_lemmas.Free.{claimed_group_has_none_clear}
-use Rattle.heap_table.specs.Made.{Made, FoundIn, IsSound}
+use Rattle.heap_table.specs.Made.{Made, FoundIn, ToldIn, IsSound}
 use Rattle.heap_table.specs.SeatHeld.{SeatHeld}
 use Rattle.frag_claim.specs.Gathered.{IsClaimed, IsExhausted}
-use Rattle.mutator_seat.specs.Calls.{ToldIn, IsCauseOf, KeepsWhereRefused}
+use Rattle.mutator_seat.specs.Calls.{IsCauseOf, KeepsWhereRefused}
 
 -- a seat that keeps these keeps its own
 keeps_kept : (old new : Seat) (kept : Kept) → kept_of new ≡ kept → kept.registers ≡ old.registers → kept.seen ≡ old.seen → kept.reserve ≡ old.reserve → kept.cursor ≡ old.cursor → kept.made ≡ old.made → KeepsOwn old new

@@ -26,7 +26,8 @@ use Rattle.core_machine.specs.seat.Seat.{HasNumberLeft}
 use Rattle.core_machine.proofs.own_stages.Sums.{ComeTo, come_to-append, come_to-said, come_to-takes, come_to-gives, come_to-last_gives}
 use Rattle.core_rule.specs.hand.Holding.{fragments_in_hand}
 use Rattle.heap_table.specs.SeatHeld.{SeatHeld}
-use Rattle.mutator_seat.specs.Calls.{ToldIn, MakesCall}
+use Rattle.heap_table.specs.Made.{ToldIn}
+use Rattle.mutator_seat.specs.Calls.{MakesCall}
 use Rattle.mutator_seat.specs.Resting.{seat_state, Rests}
 
 -- what a seat that rests has of its own is its reserve

@@ -22,7 +22,8 @@ use Rattle.core_machine.specs.seat.Local.{answer_of}
 use Rattle.core_machine.specs.seat.Registers.{register_in, value_of, is_same_value}
 use Rattle.core_rule.proofs.graph.SameValues.{same_value_test_tells}
 use Rattle.heap_table.specs.SeatHeld.{SeatHeld}
-use Rattle.mutator_seat.specs.Calls.{ToldIn, MakesCall}
+use Rattle.heap_table.specs.Made.{ToldIn}
+use Rattle.mutator_seat.specs.Calls.{MakesCall}
 use Rattle.mutator_seat.specs.Resting.{seat_state}
 use Rattle.mutator_seat.specs.Swaps.{FindsBySwap}
 use Rattle.mutator_seat.proofs.Refusals.{register_told, refused_without, none_of_own, IsOwnMeta, meta_of_own, refused_past}

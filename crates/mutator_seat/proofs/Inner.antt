@@ -1,7 +1,7 @@
 -- An inner call of a seat's collect, by the steps that it has made.
 use Rattle.std.proofs.Common.{◌≡◌, ℕ, ◌+◌, ◌<◌, ◌≤◌, List, [], ◌∷◌, ◌++◌, length, Option, Some, refl, sym, ap, subst, ◌∙◌, inl, inr, append-nil, append_assoc, arith}
 use Rattle.std.specs.List.{All}
-use Rattle.std.proofs.lemmas.List.Elements.{All-append, All-nil, All-push}
+use Rattle.std.proofs.lemmas.List.Elements.{All-append, All-nil, All-push, Contains-append_right}
 use Rattle.std.proofs.lemmas.List.Sums.{fold-append}
 use Rattle.heap_model.specs.Heap.{IsHeap}
 use Rattle.heap_model.specs.calls.SeatLaws.{IsOwn}
@@ -30,7 +30,6 @@ use Rattle.core_rule.specs.told.Told.{IsAsTold}
 use Rattle.heap_table.specs.Begun.{next_seat}
 use Rattle.heap_table.specs.Made.{Made, FoundIn, LeadsTo, MakesSteps, IsSound}
 use Rattle.heap_table.specs.SeatHeld.{SeatHeld}
-use Rattle.heap_table.proofs.MadeSteps.{found_in_first_step, found_in_longer_steps}
 use Rattle.mutator_seat.specs.InnerCalls.{MayCollect, begun_inner, MakesInner}
 use Rattle.mutator_seat.specs.Resting.{seat_state, Rests}
 
@@ -51,8 +50,8 @@ module _ (heap : Heap) (number : ℕ) (inner : Inner) (old : Seat) (tells : Step
   inner_along [] seat new told fits leads tell stage =
       ([], subst (λ (t : List Entry). OwnInnerStage tells number inner old new t) (sym (append-nil told)) (subst (λ (s : Seat). OwnInnerStage tells number inner old s told) (sym leads) stage))
   inner_along (m ∷ made) seat new told fits leads tell stage =
-      let on = inner_on seat told m.step m.found fits leads.0 (tell m.step m.found (found_in_first_step made m)) stage in
-      let rest = inner_along made (next_seat heap number seat m.found) new (told ++ on.0) leads.1.fits leads.2 (λ step word there. tell step word (found_in_longer_steps made m step word there)) on.1 in
+      let on = inner_on seat told m.step m.found fits leads.0 (tell m.step m.found (0, omega arith, refl)) stage in
+      let rest = inner_along made (next_seat heap number seat m.found) new (told ++ on.0) leads.1.fits leads.2 (λ step word there. tell step word (Contains-append_right (m ∷ []) made (record { step = step; found = word }) there)) on.1 in
       (on.0 ++ rest.0, subst (λ (t : List Entry). OwnInnerStage tells number inner old new t) (append_assoc told on.0 rest.0) rest.1)
 
 -- what an inner call tells is the seat's own, and it does no set

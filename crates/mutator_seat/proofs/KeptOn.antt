@@ -20,9 +20,9 @@ use Rattle.core_machine.specs.seat.FitsAccess.{IsSet, IsCas}
 use Rattle.core_machine.specs.machine.Machine.{MayBegin}
 use Rattle.core_machine.specs.seat.Seat.{HasNumberLeft}
 use Rattle.core_rule.specs.told.Told.{IsAsTold}
-use Rattle.heap_table.specs.Made.{IsSound}
+use Rattle.heap_table.specs.Made.{ToldIn, IsSound}
 use Rattle.heap_table.specs.SeatHeld.{SeatHeld}
-use Rattle.mutator_seat.specs.Calls.{ToldIn, MakesCall}
+use Rattle.mutator_seat.specs.Calls.{MakesCall}
 use Rattle.mutator_seat.specs.Resting.{Rests}
 
 -- a command that may put a word into a field

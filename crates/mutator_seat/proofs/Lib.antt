@@ -7,6 +7,4 @@ pub mod KeptOn
 pub mod Refusals
 pub mod Replied
 pub mod Running
-pub mod Since
-pub mod Started
 pub mod Whole

@@ -27,7 +27,8 @@ use Rattle.core_machine.proofs.own_stages.Objects.{held_head, reply_is_no_object
 use Rattle.core_rule.specs.told.Found.{IsMetaOf}
 use Rattle.core_rule.specs.graph.Registers.{IsAwaited}
 use Rattle.heap_table.specs.SeatHeld.{SeatHeld}
-use Rattle.mutator_seat.specs.Calls.{ToldIn, MakesCall}
+use Rattle.heap_table.specs.Made.{ToldIn}
+use Rattle.mutator_seat.specs.Calls.{MakesCall}
 use Rattle.mutator_seat.specs.Replies.{AnswersGet, AnswersSet, IsReplyTo, AnswersCas}
 use Rattle.mutator_seat.specs.Resting.{seat_state, Rests}
 use Rattle.mutator_seat.proofs.Replied.{reply_is_to_command}

@@ -15,7 +15,8 @@ use Rattle.core_machine.specs.seat.FitsHandshake.{IsLocal}
 use Rattle.core_machine.specs.seat.Local.{answer_of, local_reply_of}
 use Rattle.core_machine.specs.seat.Registers.{register_in, value_of, is_same_value}
 use Rattle.heap_table.specs.SeatHeld.{SeatHeld}
-use Rattle.mutator_seat.specs.Calls.{ToldIn, MakesCall}
+use Rattle.heap_table.specs.Made.{ToldIn}
+use Rattle.mutator_seat.specs.Calls.{MakesCall}
 use Rattle.mutator_seat.specs.Replies.{AnswersRecord, AnswersArray, AnswersGet, AnswersSet, AnswersCas, AnswersSame, IsDone, IsReplyTo}
 
 -- one that looks at no word

@@ -11,6 +11,7 @@ use Rattle.core_machine.specs.seat.Commands.{IsServed}
 use Rattle.core_rule.specs.told.Told.{IsAsTold}
 use Rattle.heap_table.specs.Made.{Made, MakesSteps, IsSound}
 use Rattle.heap_table.specs.SeatHeld.{SeatHeld}
+use Rattle.heap_table.specs.StepLaws.{EachStageIsTold}
 use Rattle.mutator_seat.specs.Calls.{begun, MakesCall}
 use Rattle.mutator_seat.specs.Resting.{seat_state, Rests}
 use Rattle.mutator_seat.proofs.Answered.{begun_is_sound, begun_has_room, replied_call_is_made, call_has_some_reply}
@@ -37,16 +38,16 @@ module _ (inside value : SeatHeld) (command : Command) (view : inside ≡ value)
     pub first_has_room : owes first.seat + 2 ≤ first.spare
     first_has_room = begun_has_room value command rested may first begun_is ready.room
 
-    module _ (new : SeatHeld) (steps : (made : List Made) × MakesSteps first new made) (over : new.seat.point ≡ Idle) where
+    module _ (laws : EachStageIsTold) (new : SeatHeld) (steps : (made : List Made) × MakesSteps first new made) (over : new.seat.point ≡ Idle) where
       makes : MakesSteps (begun value command) new steps.0
       makes = subst (λ (h : SeatHeld). MakesSteps h new steps.0) begun_is steps.1
 
       pub call_replies_at_last : last_reply_of new.seat.mine ≡ None → ⊥
-      call_replies_at_last = call_has_some_reply value command rested may new steps.0 makes over
+      call_replies_at_last = call_has_some_reply value command rested may laws new steps.0 makes over
 
       module _ (reply : Reply) (last : last_reply_of new.seat.mine ≡ Some reply) where
         pub whole_call_is_made : MakesCall value new command reply
-        whole_call_is_made = replied_call_is_made value command rested may new steps.0 makes over reply last
+        whole_call_is_made = replied_call_is_made value command rested may laws new steps.0 makes over reply last
 
         pub seat_rests_then : IsSound new → (new.seat.point ≡ Idle → IsAsTold new.heap new.number new.seat) → Rests new
         seat_rests_then sound told = seat_rests_after_call value new command reply may whole_call_is_made sound (told over)

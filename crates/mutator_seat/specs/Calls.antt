@@ -11,12 +11,10 @@ use Rattle.core_machine.specs.calls.Kept.{kept_of}
 use Rattle.core_machine.specs.calls.Replies.{StandsOn}
 use Rattle.core_machine.specs.declared.point.Point.TheVariants.{Idle}
 use Rattle.core_machine.specs.declared.step.SpineStep.TheVariants.{BudgetAdd}
-use Rattle.core_machine.specs.declared.step.Step.{Step}
 use Rattle.core_machine.specs.declared.step.Step.TheVariants.{PollLoad, Spine}
 use Rattle.core_machine.specs.machine.Calls.{IsBeside, KeepsOwn}
 use Rattle.core_machine.specs.machine.Machine.{after_begin}
-use Rattle.core_rule.specs.told.Found.{TellsWord}
-use Rattle.heap_table.specs.Made.{Made, FoundIn, MakesSteps}
+use Rattle.heap_table.specs.Made.{Made, FoundIn, ToldIn, MakesSteps}
 use Rattle.heap_table.specs.SeatHeld.{SeatHeld}
 use Rattle.frag_claim.specs.Gathered.{IsExhausted}
 use Rattle.mutator_seat.specs.Resting.{Rests}
@@ -24,10 +22,6 @@ use Rattle.mutator_seat.specs.Resting.{Rests}
 -- the seat with the command in flight
 abbrev pub begun : SeatHeld → Command → SeatHeld
 begun held command = record held { seat = after_begin held.heap held.seat command }
-
--- one of the steps found this word, of which the rule tells so much by what the seat had when its call began
-abbrev pub ToldIn : SeatHeld → List Made → Step → ℕ → Type 0
-ToldIn old made step word = FoundIn made step word × TellsWord old.heap old.number old.seat step word
 
 -- what these steps found for a reply that shows a phase or a refusal of space: the phase word; a claim at every group, and no more than that; the spine words in use
 abbrev pub IsCauseOf : List Made → SeatHeld → Reply → Type 0

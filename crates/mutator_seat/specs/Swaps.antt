@@ -7,9 +7,9 @@ use Rattle.heap_model.specs.declared.reply.Swapped.TheVariants.{Was, Now}
 use Rattle.core_machine.specs.calls.FieldReplies.{IsCompared, word_expected}
 use Rattle.core_machine.specs.calls.Kept.{Kept, kept_of}
 use Rattle.core_machine.specs.declared.step.Step.{Step}
-use Rattle.heap_table.specs.Made.{Made, MakesSteps}
+use Rattle.heap_table.specs.Made.{Made, ToldIn, MakesSteps}
 use Rattle.heap_table.specs.SeatHeld.{SeatHeld}
-use Rattle.mutator_seat.specs.Calls.{begun, ToldIn}
+use Rattle.mutator_seat.specs.Calls.{begun}
 
 -- the field that was reached had the word of the register's value and seen stamp, and that stamp is shown; or it had another word, whose stamp is shown
 abbrev pub FoundBySwap : (Step → ℕ → Type 0) → ℕ → Command → Kept → Swapped → Type 0

@@ -8,7 +8,7 @@ ghost use Rattle.mutator_seat.specs.Calls.{begun};
 
 use core_machine::{Entries, SeatParty, ShowsLast};
 use heap_model::{Command, Entry, Reply};
-use heap_table::Holder;
+use heap_table::{Holder, step_laws};
 
 /// Makes the due step for as long as there is one.
 pub(crate) fn run<L: Entries>(holder: &mut Holder<L>)
@@ -17,6 +17,7 @@ pub(crate) fn run<L: Entries>(holder: &mut Holder<L>)
     ensures steps { (made : List Made) × MakesSteps holder.old holder.new made }
     ensures over { holder.new.seat.point ≡ Idle }
 {
+    step_laws();
     while let Some(step) = holder.due() {
         holder.step(&step);
     }
@@ -31,6 +32,7 @@ pub(crate) fn run_whole<L: Entries>(holder: &mut Holder<L>, command: &Command)
     ensures steps { (made : List Made) × MakesSteps (begun holder.old command.now) holder.new made }
     ensures over { holder.new.seat.point ≡ Idle }
 {
+    step_laws();
     if holder.start(command) {
         return;
     }

@@ -1,5 +1,5 @@
 -- A record is stored and born, step by step.
-use Rattle.std.proofs.Common.{◌≡◌, ℕ, ◌+◌, ◌*◌, ◌<◌, ◌≤◌, List, [], length, Option, Some, None, refl, sym, ap, subst, ◌∙◌, inl, inr, arith}
+use Rattle.std.proofs.Common.{◌≡◌, ℕ, ◌+◌, ◌*◌, ◌<◌, ◌≤◌, List, [], ◌∷◌, ◌++◌, length, Option, Some, None, refl, sym, ap, subst, ◌∙◌, inl, inr, arith}
 use Rattle.std.proofs.lemmas.Bool.Decides.{eqb_tells}
 use Rattle.std.specs.Prelude.{option_map}
 use Rattle.heap_model.specs.declared.heap.Heap.{Heap}
@@ -13,9 +13,9 @@ use Rattle.core_machine.specs.seat.Seat.{Seat}
 use Rattle.core_machine.specs.calls.Owes.{owes, owes_at, steps_left}
 use Rattle.core_machine.proofs.table_lemmas.Bits.{true_or_false}
 use Rattle.heap_table.specs.Made.{Made, MakesSteps, IsSound}
-use Rattle.heap_table.specs.SeatHeld.{SeatHeld, IsStepped}
+use Rattle.heap_table.specs.SeatHeld.{SeatHeld, IsStepped, StepFinds}
+use Rattle.heap_table.specs.StepLaws.{EachMakesNone, OneMoreIsMade, EachStepIsNearer}
 use Rattle.heap_table.specs.Told.{ToldAtStep}
-use Rattle.heap_table.proofs.MadeSteps.{makes_no_steps, step_leaves_fewer, step_leaves_room, step_owes_within_most, step_makes_one_more}
 use Rattle.object_chain.specs.Bearing.{BeginsBearing}
 use Rattle.object_chain.specs.Due.{due_of_bearing}
 
@@ -34,11 +34,11 @@ pub record WhileBearing (first now : SeatHeld) : Type 0 where
   pub paid : owes now.seat + length now.seat.mine ≤ 1 + length first.seat.mine
   pub room : owes now.seat + 2 ≤ now.spare
 
-pub while_bearing_at_begin : (held : SeatHeld) (fragments : List ℕ) (fields d : ℕ) → BeginsBearing held fragments fields d → 3 ≤ held.spare → WhileBearing held held
-while_bearing_at_begin held fragments fields d begins room =
+pub while_bearing_at_begin : EachMakesNone → (held : SeatHeld) (fragments : List ℕ) (fields d : ℕ) → BeginsBearing held fragments fields d → 3 ≤ held.spare → WhileBearing held held
+while_bearing_at_begin none held fragments fields d begins room =
     let owed : owes held.seat ≡ 1 = ap (owes_at held.seat) begins.point_is in
     record {
-      steps = ([], makes_no_steps held);
+      steps = ([], none held);
       stands = subst StandsBearing (sym begins.point_is) tt;
       reserve_stays = refl;
       paid = omega (arith, owed);
@@ -69,18 +69,20 @@ keeps_on heap number seat found (points.Making Bearing) due step e =
     elim (true_or_false (is_last_birth seat)) as (λ _. (seat_after (bearing_move number seat) found).reserve ≡ seat.reserve) [ inl last ↦ rw last refl | inr more ↦ rw more refl ]
 keeps_on heap number seat found _ due step e = cc
 
-pub while_bearing_after_step : (first now new : SeatHeld) (step : Step) (found : ℕ) → IsSound now → WhileBearing first now → due_of_bearing now.seat.point (due_step now.heap now.number now.seat) ≡ Some step
+pub while_bearing_after_step : OneMoreIsMade → EachStepIsNearer → (first now new : SeatHeld) (step : Step) (found : ℕ) → IsSound now → WhileBearing first now → due_of_bearing now.seat.point (due_step now.heap now.number now.seat) ≡ Some step
     → IsStepped now new found → ToldAtStep now.heap now.number now.seat found → WhileBearing first new × (steps_left new.heap new.seat < steps_left now.heap now.seat)
-while_bearing_after_step first now new step found sound while is stepped told =
-    let due = of_bearing now.seat.point (due_step now.heap now.number now.seat) step is in (
+while_bearing_after_step more nearer first now new step found sound while is stepped told =
+    let finds : StepFinds now new found = record { stepped = stepped; told = told } in
+    let due = of_bearing now.seat.point (due_step now.heap now.number now.seat) step is in
+    let near = nearer now new step found sound due finds in (
       record {
-        steps = step_makes_one_more first now new step found sound due stepped told while.steps;
+        steps = (while.steps.0 ++ record { step = step; found = found } ∷ [], more first now new while.steps.0 step found while.steps.1 due finds);
         stands = subst (λ (s : Seat). StandsBearing s.point) (sym stepped.seat_is) (stands_on now.heap now.number now.seat found now.seat.point (due_step now.heap now.number now.seat) step refl is);
         reserve_stays = ap (λ (s : Seat). s.reserve) stepped.seat_is ∙ keeps_on now.heap now.number now.seat found now.seat.point (due_step now.heap now.number now.seat) step is ∙ while.reserve_stays;
-        paid = step_owes_within_most first now new step found sound due stepped told (1 + length first.seat.mine) while.paid;
-        room = step_leaves_room first now new step found sound due stepped told while.room;
+        paid = omega (arith, while.paid, near.paid);
+        room = omega (arith, while.room, near.paid, stepped.room_stays);
       },
-      step_leaves_fewer first now new step found sound due stepped told,
+      near.fewer,
     )
 
 -- once none is due the call is over

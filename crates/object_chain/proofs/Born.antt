@@ -21,6 +21,7 @@ use Rattle.core_machine.specs.seat.Fits.{FitsPoint}
 use Rattle.core_machine.specs.seat.Seat.{Seat, no_spot}
 use Rattle.heap_table.specs.Made.{Made, FoundIn, MakesSteps, IsSound}
 use Rattle.heap_table.specs.SeatHeld.{SeatHeld}
+use Rattle.heap_table.specs.StepLaws.{EachStageGoesAlong}
 use Rattle.object_chain.specs.Bearing.{BeginsBearing, IsBorn, HoldsNewborn}
 use Rattle.object_chain.proofs.MadeObjects.{brought, brought_has_object, WasAnswered, begun_call_was_answered, made_body_is_fragments, made_body_is_born, seat_holds_newborn, newborn_reply_is_told}
 
@@ -45,7 +46,7 @@ made_of tells heap number d fields before kept first (replies.Full need found) e
     absurd (omega (arith, stands.too_few, stands.found_is, stands.shown_is, enough))
 made_of tells heap number d fields before kept first (replies.SpineFull need used) enough stands = absurd stands.an_array
 
-module _ (made : List Made) (old new : SeatHeld) (fragments : List ℕ) (fields d : ℕ) (begins : BeginsBearing old fragments fields d) (sound : IsSound old) (makes : MakesSteps old new made)
+module _ (along : EachStageGoesAlong) (made : List Made) (old new : SeatHeld) (fragments : List ℕ) (fields d : ℕ) (begins : BeginsBearing old fragments fields d) (sound : IsSound old) (makes : MakesSteps old new made)
     (over : new.seat.point ≡ points.Idle) where
   abbrev tells : Step → ℕ → Type 0
   tells = FoundIn made
@@ -64,7 +65,7 @@ module _ (made : List Made) (old new : SeatHeld) (fragments : List ℕ) (fields 
       (brought_has_object tells old sound fits_there.0.whole (λ an_array. absurd (no_array an_array)), λ an_array. absurd (no_array an_array), λ k below. absurd (omega (arith, below, begins.none_stored)))
 
   was : WasAnswered tells old new (New d fields)
-  was = begun_call_was_answered made tells old new (New d fields) sound makes over (λ step word here. here) begins.command_is begins_so
+  was = begun_call_was_answered along [] made old new (New d fields) sound makes over begins.command_is begins_so
 
   needed : length old.seat.body ≡ need_of (New d fields)
   needed = fits_there.0.whole ∙ ap need_of begins.command_is

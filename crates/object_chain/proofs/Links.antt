@@ -29,9 +29,9 @@ use Rattle.core_machine.proofs.seat_lemmas.FieldPoints.{field_point_cases}
 use Rattle.core_rule.specs.cycle.Flight.{WhileAccess}
 use Rattle.core_rule.specs.told.Reached.{HasReached}
 use Rattle.heap_table.specs.Made.{Made, FoundIn, MakesSteps, IsSound}
-use Rattle.heap_table.specs.SeatHeld.{SeatHeld, IsStepped}
+use Rattle.heap_table.specs.SeatHeld.{SeatHeld, IsStepped, StepFinds}
+use Rattle.heap_table.specs.StepLaws.{EachMakesNone, OneMoreIsMade, EachStepIsNearer, EachStepReaches}
 use Rattle.heap_table.specs.Told.{ToldAtStep}
-use Rattle.heap_table.proofs.MadeSteps.{makes_no_steps, makes_steps_of_append, makes_one_step, while_access_has_reached, step_nears_end}
 use Rattle.object_chain.specs.Due.{due_of_walk}
 use Rattle.object_chain.specs.FieldPlace.{IsPlaceOfField}
 use Rattle.object_chain.specs.Walking.{BeginsWalking, HasFound, IsAtField}
@@ -127,8 +127,8 @@ way_owes : (tells : Step → ℕ → Type 0) (head rows links reached : ℕ) (se
 way_owes tells head rows links reached seat (points.Access point) way = refl
 way_owes tells head rows links reached seat _ way = absurd way
 
-pub while_walking_at_begin : (held : SeatHeld) (head : ℕ) (meta : Meta) (field : ℕ) → BeginsWalking held head meta field → 3 ≤ held.spare → WhileWalking head meta field held held
-while_walking_at_begin held head meta field begins room =
+pub while_walking_at_begin : EachMakesNone → (held : SeatHeld) (head : ℕ) (meta : Meta) (field : ℕ) → BeginsWalking held head meta field → 3 ≤ held.spare → WhileWalking head meta field held held
+while_walking_at_begin none held head meta field begins room =
     let before = begins.before in
     let start = with_field_place before in
     let tells = HasFound [] head meta in
@@ -144,7 +144,7 @@ while_walking_at_begin held head meta field begins room =
     let same = stays_by start (after_walk start begins.word) held.seat is (walking_stays start begins.word) in
     record {
       made = [];
-      makes = makes_no_steps held;
+      makes = none held;
       way = here;
       part_is = same.0 ∙ ap part_of begins.field_is;
       holds = holds_on start held.seat head same (subst (HoldsHead before) begins.head_is (loaded_meta_is_heads held.heap held.number before begins.word begins.loading begins.told));
@@ -160,12 +160,13 @@ of_walk _ due step e = cc
 same_step : {a b : Step} → Some a ≡ Some b → a ≡ b
 same_step e = cc
 
-pub while_walking_after_step : (head : ℕ) (meta : Meta) (field : ℕ) (first now new : SeatHeld) (step : Step) (found : ℕ) → IsSound now → WhileWalking head meta field first now
+pub while_walking_after_step : OneMoreIsMade → EachStepIsNearer → EachStepReaches → (head : ℕ) (meta : Meta) (field : ℕ) (first now new : SeatHeld) (step : Step) (found : ℕ) → IsSound now → WhileWalking head meta field first now
     → due_of_walk now.seat.point (due_step now.heap now.number now.seat) ≡ Some step → IsStepped now new found → ToldAtStep now.heap now.number now.seat found
     → WhileWalking head meta field first new × (steps_left new.heap new.seat < steps_left now.heap now.seat)
-while_walking_after_step head meta field first now new step found sound while is stepped told =
+while_walking_after_step more nearer reached head meta field first now new step found sound while is stepped told =
+    let finds : StepFinds now new found = record { stepped = stepped; told = told } in
     let at = of_walk now.seat.point (due_step now.heap now.number now.seat) step is in
-    let near = step_nears_end now.heap now.number now.seat sound.limits (omega (arith, sound.within, sound.limits.seats_fit)) sound.fits step found new.seat at.1 stepped.seat_is in
+    let near = nearer now new step found sound at.1 finds in
     let made = while.made ++ record { step = step; found = found } ∷ [] in
     let tells = HasFound made head meta in
     let loads : steps.Access (WalkLoad now.seat.reached) ≡ step =
@@ -174,26 +175,26 @@ while_walking_after_step head meta field first now new step found sound while is
     let tell : tells (steps.Access (WalkLoad now.seat.reached)) found = inl (subst (λ (s : Step). FoundIn made s found) (sym loads) last) in
     let way : WayAt (HasFound while.made head meta) head (row_of field) now.seat.links now.seat.reached (points.Access Walking) =
     subst (WayAt (HasFound while.made head meta) head (row_of field) now.seat.links now.seat.reached) at.0 while.way in
-    let wider = way_by (HasFound while.made head meta) tells head (row_of field) now.seat.links now.seat.reached (points.Access Walking) (λ s w. more s w) way in
+    let wider = way_by (HasFound while.made head meta) tells head (row_of field) now.seat.links now.seat.reached (points.Access Walking) (λ s w. found_on s w) way in
     let next : new.seat ≡ with_entries (after_walk now.seat found) [] =
     stepped.seat_is ∙ ap (λ (p : Point). seat_after_due now.seat (move_at now.heap now.number now.seat p) found) at.0 in
     let same = stays_by now.seat (after_walk now.seat found) new.seat next (walking_stays now.seat found) in (
       record {
         made = made;
-        makes = makes_steps_of_append first now new while.made (record { step = step; found = found } ∷ []) while.makes (makes_one_step now new step found at.1 told stepped);
+        makes = more first now new while.made step found while.makes at.1 finds;
         way = subst (λ (s : Seat). WayOf tells head (row_of field) s) (sym next) (walked tells head (row_of field) now.seat found wider.0 wider.1 wider.2 tell);
         part_is = same.0 ∙ while.part_is;
         holds = holds_on now.seat new.seat head same while.holds;
         field_is = ap field_of same.2 ∙ while.field_is;
-        comes = while_access_has_reached now new found stepped told;
-        room = omega (arith, while.room, near.1, stepped.room_stays);
+        comes = reached now new found finds;
+        room = omega (arith, while.room, near.paid, stepped.room_stays);
       },
-      subst (λ (h : Heap). steps_left h new.seat < steps_left now.heap now.seat) (sym stepped.heap_stays) near.0,
+      near.fewer,
     )
   where
-    more : (s : Step) (w : ℕ) → HasFound while.made head meta s w → HasFound (while.made ++ record { step = step; found = found } ∷ []) head meta s w
-    more s w (inl here) = inl (Contains-append_left while.made (record { step = step; found = found } ∷ []) (record { step = s; found = w }) here)
-    more s w (inr first_) = inr first_
+    found_on : (s : Step) (w : ℕ) → HasFound while.made head meta s w → HasFound (while.made ++ record { step = step; found = found } ∷ []) head meta s w
+    found_on s w (inl here) = inl (Contains-append_left while.made (record { step = step; found = found } ∷ []) (record { step = s; found = w }) here)
+    found_on s w (inr first_) = inr first_
 
 -- once no link is to be loaded the seat is at the field
 module _ (head : ℕ) (meta : Meta) (field : ℕ) (first held : SeatHeld) (while : WhileWalking head meta field first held) (none : due_of_walk held.seat.point (due_step held.heap held.number held.seat) ≡ None) where

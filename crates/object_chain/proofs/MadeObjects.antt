@@ -26,7 +26,7 @@ use Rattle.core_machine.specs.seat.Seat.{Seat}
 use Rattle.core_machine.specs.table.Fragments.{mask_of}
 use Rattle.heap_table.specs.Made.{Made, FoundIn, MakesSteps, IsSound}
 use Rattle.heap_table.specs.SeatHeld.{SeatHeld}
-use Rattle.heap_table.proofs.MadeSteps.{stage_stands_along_steps}
+use Rattle.heap_table.specs.StepLaws.{EachStageGoesAlong}
 use Rattle.object_chain.specs.Bearing.{IsBorn, HoldsNewborn}
 
 -- the front of a list that goes on
@@ -76,12 +76,12 @@ pub record WasAnswered (tells : Step → ℕ → Type 0) (old new : SeatHeld) (c
   pub answered : IsAnswered tells old.heap old.number command (kept_of (brought old.seat)) (kept_of new.seat) told
 
 -- so is a call that stands so where it begins, once it is over
-pub begun_call_was_answered : (made : List Made) (tells : Step → ℕ → Type 0) (old new : SeatHeld) (command : Command) → IsSound old → MakesSteps old new made → new.seat.point ≡ points.Idle
-    → ((step : Step) (word : ℕ) → FoundIn made step word → tells step word) → old.seat.command ≡ command → StageAt tells old.heap old.number (kept_of (brought old.seat)) old.seat [] old.seat.point
-    → WasAnswered tells old new command
-begun_call_was_answered made tells old new command sound makes over here same stage =
+pub begun_call_was_answered : EachStageGoesAlong → (before made : List Made) (old new : SeatHeld) (command : Command) → IsSound old → MakesSteps old new made → new.seat.point ≡ points.Idle
+    → old.seat.command ≡ command → StageAt (FoundIn (before ++ made)) old.heap old.number (kept_of (brought old.seat)) old.seat [] old.seat.point → WasAnswered (FoundIn (before ++ made)) old new command
+begun_call_was_answered along before made old new command sound makes over same stage =
+    let tells : Step → ℕ → Type 0 = FoundIn (before ++ made) in
     let begins : OwnStage tells old.heap old.number command (brought old.seat) old.seat [] = record { same = same; mine = sym (append-nil old.seat.mine); stage = stage } in
-    let ends = stage_stands_along_steps tells old.heap old.number command (brought old.seat) sound.limits (omega (arith, sound.within, sound.limits.seats_fit)) made old.seat new.seat [] sound.fits makes.leads here begins in
+    let ends = along before made old.heap old.number command (brought old.seat) old.seat new.seat [] sound.limits (omega (arith, sound.within, sound.limits.seats_fit)) sound.fits makes.leads begins in
     record {
       told = ends.0;
       mine = ends.1.mine;

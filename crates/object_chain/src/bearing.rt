@@ -11,7 +11,7 @@ ghost use Rattle.object_chain.specs.Due.{due_of_bearing as due_at_bearing};
 
 use core_machine::{Entries, Making, Point, Step};
 use heap_model::Id;
-use heap_table::Holder;
+use heap_table::{Holder, step_laws};
 
 /// The store or the birth that is due, until the object is born.
 fn due_of_bearing<L: Entries>(holder: &Holder<L>) -> Option<Step>
@@ -38,6 +38,7 @@ pub fn bear_record<L: Entries>(holder: &mut Holder<L>, fragments: &[u16], fields
         seat: holder.number(),
         count: holder.made(),
     };
+    step_laws();
     // What is true of every seat's data is known from here on.
     let _ = holder.party();
     while let Some(step) = due_of_bearing(holder) {

@@ -11,7 +11,7 @@ ghost use Rattle.heap_table.specs.Made.{Made, MakesSteps};
 ghost use Rattle.object_chain.specs.Naming.{BeginsNaming, IsNamed, IsHeldsName};
 
 use core_machine::{AccessStep, Entries, Step};
-use heap_table::Holder;
+use heap_table::{Holder, step_laws};
 use heap_words::Name;
 
 /// Loads the name of the object with this first fragment, to which the field refers that the get in flight has found, and ends the get.
@@ -25,6 +25,7 @@ pub fn name_of<L: Entries>(holder: &mut Holder<L>, head: u16) -> Name
     ensures told { holder.new.seat.mine ≡ holder.old.seat.mine ++ Said holder.old.number holder.old.seat.command (Got (TellsObject (id_of_owner result.owner result.count)) (stamp_of holder.old.seat.loaded)) ∷ [] }
     ensures over { holder.new.seat.point ≡ Idle }
 {
+    step_laws();
     let word = holder.step(&Step::Access(AccessStep::NameLoad { head }));
     Name::told(word)
 }

@@ -8,7 +8,7 @@ ghost use Rattle.object_chain.specs.FieldPlace.{IsPlaceOfField};
 ghost use Rattle.object_chain.specs.Walking.{BeginsWalking, HasFound, IsAtField};
 
 use core_machine::{Access, Entries, Step};
-use heap_table::Holder;
+use heap_table::{Holder, step_laws};
 use heap_words::Meta;
 
 /// Where a field stands: a fragment, and a word of it.
@@ -40,6 +40,7 @@ pub fn walk<L: Entries>(holder: &mut Holder<L>, head: u16, meta: Meta, field: u1
     ensures field { IsPlaceOfField holder.new head field result.fragment result.part }
     ensures room { 3 ≤ holder.new.spare }
 {
+    step_laws();
     while let Some(step) = due_of_walk(holder) {
         holder.step(&step);
     }

@@ -8,6 +8,7 @@ use crate::run::{last_reply, run_whole};
 use crate::seat::Seat;
 use core_machine::ShowsLast;
 use heap_model::{Command, Reply};
+use heap_table::step_laws;
 
 impl<L: ShowsLast> Seat<L> {
     /// Makes a whole call, step by step, while others may step between any two, and answers its reply.
@@ -17,6 +18,7 @@ impl<L: ShowsLast> Seat<L> {
         requires served { IsServed command.now }
         ensures { MakesCall self.old self.new command.now result }
     {
+        step_laws();
         run_whole(&mut self.holder, command);
         match last_reply(self.holder.party()) {
             Some(reply) => reply,

@@ -19,15 +19,15 @@ run_whole-requires-clause-room g c =
 pub unreachable-requires : goal.unreachable-requires
 unreachable-requires g c =
     call_replies_at_last c.self.inside.holder c.args.self.now c.args.command.now c.self.view_is c.self.invariant c.requires.ready c.requires.served (begun c.self.inside.holder c.args.command.now) refl
-    c.run_whole.new.holder c.run_whole.ensures.steps c.run_whole.ensures.over (ap (λ (s : Seat). last_reply_of s.mine) (sym c.party.ensures.seat) ∙ sym c.last_reply.ensures ∙ c.in-None.is)
+    c.step_laws.ensures.told c.run_whole.new.holder c.run_whole.ensures.steps c.run_whole.ensures.over (ap (λ (s : Seat). last_reply_of s.mine) (sym c.party.ensures.seat) ∙ sym c.last_reply.ensures ∙ c.in-None.is)
 
 pub returns : goal.returns
 returns g c =
     whole_call_is_made c.self.inside.holder c.args.self.now c.args.command.now c.self.view_is c.self.invariant c.requires.ready c.requires.served (begun c.self.inside.holder c.args.command.now) refl
-    c.run_whole.new.holder c.run_whole.ensures.steps c.run_whole.ensures.over c.in-Some.reply (ap (λ (s : Seat). last_reply_of s.mine) (sym c.party.ensures.seat) ∙ sym c.last_reply.ensures ∙ c.in-Some.is)
+    c.step_laws.ensures.told c.run_whole.new.holder c.run_whole.ensures.steps c.run_whole.ensures.over c.in-Some.reply (ap (λ (s : Seat). last_reply_of s.mine) (sym c.party.ensures.seat) ∙ sym c.last_reply.ensures ∙ c.in-Some.is)
 
 pub invariant_of-self : goal.invariant_of-self
 invariant_of-self g c =
     seat_rests_then c.self.inside.holder c.args.self.now c.args.command.now c.self.view_is c.self.invariant c.requires.ready c.requires.served (begun c.self.inside.holder c.args.command.now) refl
-    c.run_whole.new.holder c.run_whole.ensures.steps c.run_whole.ensures.over c.in-Some.reply (ap (λ (s : Seat). last_reply_of s.mine) (sym c.party.ensures.seat) ∙ sym c.last_reply.ensures ∙ c.in-Some.is)
+    c.step_laws.ensures.told c.run_whole.new.holder c.run_whole.ensures.steps c.run_whole.ensures.over c.in-Some.reply (ap (λ (s : Seat). last_reply_of s.mine) (sym c.party.ensures.seat) ∙ sym c.last_reply.ensures ∙ c.in-Some.is)
     c.party.ensures.sound c.party.ensures.own
