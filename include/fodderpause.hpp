@@ -89,6 +89,7 @@ public:
     }
 
     fodderpause_turned turn() noexcept { return fodderpause_turn(&handle); }
+    fodderpause_turned turns(uint64_t n, uint64_t &made) noexcept { return fodderpause_turns(&handle, n, &made); }
     fodderpause_phase_told phase() noexcept { return fodderpause_phase(&handle); }
     uint32_t fold_in(seat &other) noexcept { return fodderpause_fold_in(&handle, other.c()); }
     uint32_t close() noexcept { return fodderpause_close(&handle); }

@@ -170,10 +170,36 @@ static void call(fodderpause_seat *seat)
     is("four found", made.found, 4);
 }
 
+/* Two looks that find both seats' answers, the advance, and the look that finds seat 0 behind: four turns, of which the last waits. */
+static void turn_in_one_go(void)
+{
+    uint64_t made = 1;
+    is("more turns than entries", fodderpause_turns(&collector, UINT64_MAX, &made).code, FODDERPAUSE_ENTRIES_SPENT);
+    is("none made of these", made, 0);
+    made = 1;
+    fodderpause_turned turned = fodderpause_turns(&collector, 0, &made);
+    is("no turns", turned.code, FODDERPAUSE_DONE);
+    is("none made", made, 0);
+    turned = fodderpause_turns(&collector, 2, &made);
+    is("two turns", turned.kind, FODDERPAUSE_STEPPED);
+    is("two made", made, 2);
+    is("before the advance", fodderpause_phase(&collector).phase, 0);
+    turned = fodderpause_turns(&collector, 1000, &made);
+    is("turns up to a wait", turned.kind, FODDERPAUSE_WAITS);
+    is("two more made", made, 2);
+    is("the seat", turned.seat, 0);
+    is("its answer", turned.answered, 0);
+    is("behind the advance", turned.phase, 1);
+    turned = fodderpause_turns((fodderpause_collector *) (void *) &seats[0], 1, &made);
+    is("a seat's turns", turned.code, FODDERPAUSE_NO_PARTY);
+    is("a seat makes none", made, 0);
+}
+
 /* Every call of a cycle, with the notes of a collect. */
 static void end_cycles(void)
 {
     is("a look", fodderpause_look(&seats[0]).phase, 0);
+    turn_in_one_go();
     for (unsigned long turns = 0; turns < 1000000; turns++) {
         fodderpause_turned turned = fodderpause_turn(&collector);
         is("a turn", turned.code, FODDERPAUSE_DONE);

@@ -102,6 +102,8 @@ int main(void)
     is("the version", fodderpause_version(), FODDERPAUSE_VERSION);
     call_nobody(&seat);
     nobody("turn", fodderpause_turn(&collector).code);
+    uint64_t turns_made = 1;
+    nobody("turns", fodderpause_turns(&collector, 1, &turns_made).code);
     nobody("phase", fodderpause_phase(&collector).code);
     nobody("fold_in", fodderpause_fold_in(&collector, &seat));
     nobody("close", fodderpause_close(&collector));

@@ -1,7 +1,7 @@
 ghost use Rattle.std.specs.Prelude.{◌≡◌};
 ghost use Rattle.fodderpause_c.specs.Parties.{ShowsCollector};
 ghost use Rattle.fodderpause_c.specs.Phases.{phase_shown};
-ghost use Rattle.fodderpause_c.specs.Turning.{TakesTurn, TellsPhase, turn_shown};
+ghost use Rattle.fodderpause_c.specs.Turning.{TakesTurn, MakesTurns, TellsPhase, turn_shown, turns_shown};
 
 use crate::codes::{DONE, refusal_code};
 use crate::collector_work::{CollectorWork, on_collector};
@@ -9,7 +9,7 @@ use crate::handle::Handle;
 use crate::party::HeapCollector;
 use crate::phases::Phase;
 use crate::refusal::Refusal;
-use heap_model::Turn;
+use heap_model::{Turn, TurnsMade};
 use std::alloc::Global;
 
 /// A turn came to a step.
@@ -78,9 +78,25 @@ impl Turned {
     }
 }
 
+/// What the last of some turns came to, and how many were made; or why none was.
+fn turns_shown(answer: Result<TurnsMade, Refusal>) -> (Turned, u64)
+    ensures { result ≡ turns_shown answer }
+{
+    match answer {
+        Ok(TurnsMade { made, last }) => (Turned::of(Ok(last.unwrap_or(Turn::Stepped))), made),
+        Err(refusal) => (Turned::of(Err(refusal)), 0),
+    }
+}
+
 /// One turn of the collector.
 #[derive(Drop)]
 pub struct TurnWork;
+
+/// Many turns of the collector, in one go.
+#[derive(Drop)]
+pub struct TurnsWork {
+    pub n: u64,
+}
 
 /// The phase.
 #[derive(Drop)]
@@ -102,6 +118,21 @@ impl CollectorWork for TurnWork {
     }
 }
 
+impl CollectorWork for TurnsWork {
+    ghost use Rattle.fodderpause_c.specs.Turning.{MakesTurns};
+
+    type Answer = TurnsMade;
+
+    ghost comes_to = { λ work. MakesTurns work.n };
+
+    fn work(&self, collector: &mut HeapCollector) -> Result<TurnsMade, Refusal> {
+        if collector.spare() as u64 <= self.n {
+            return Err(Refusal::EntriesSpent);
+        }
+        Ok(collector.take_turns(self.n))
+    }
+}
+
 impl CollectorWork for PhaseWork {
     ghost use Rattle.fodderpause_c.specs.Turning.{TellsPhase};
 
@@ -120,6 +151,21 @@ pub extern "C" fn fodderpause_turn(alloc: Global, collector: &mut Handle) -> Tur
     ensures { ShowsCollector TakesTurn turn_shown collector.old.pointer.party collector.new.pointer.party result }
 {
     Turned::of(on_collector(alloc, collector, &TurnWork))
+}
+
+/// Makes so many turns of the collector, or those up to the first that waits, and tells what the last of them came to, and how many they are.
+#[unsafe(no_mangle)]
+pub extern "C" fn fodderpause_turns(
+    alloc: Global,
+    collector: &mut Handle,
+    n: u64,
+    made: &mut u64,
+) -> Turned
+    ensures { ShowsCollector (MakesTurns n) turns_shown collector.old.pointer.party collector.new.pointer.party (result, made.new) }
+{
+    let (turned, count) = turns_shown(on_collector(alloc, collector, &TurnsWork { n }));
+    *made = count;
+    turned
 }
 
 /// The phase.
