@@ -1,5 +1,5 @@
 -- What a run of a crew comes to.
-use Rattle.std.specs.Prelude.{◌≡◌, ℕ, Bool, true, false, List, [], ◌∷◌, map, Option, Some, None, IsSomeAnd}
+use Rattle.std.specs.Prelude.{◌≡◌, ℕ, Bool, true, false, List, [], ◌∷◌, map, Option, Some, None, All, IsSomeAnd}
 use Rattle.heap_model.specs.declared.entry.Entry.{Entry}
 use Rattle.heap_model.specs.declared.heap.Heap.{Heap}
 use Rattle.script_text.specs.declared.cause.Cause.{Cause}
@@ -9,6 +9,7 @@ use Rattle.reply_text.specs.declared.history.History.{History}
 use Rattle.reply_text.specs.History.{history_lines}
 use Rattle.log_merge.specs.Legal.{IsLegalHistory}
 use Rattle.heap_table.specs.Closed.{ClosedTable}
+use Rattle.heap_table.specs.SeatHeld.{SeatHeld}
 use Rattle.collector_turns.specs.Collector.{CollectorValue}
 use Rattle.script_crew.specs.declared.crew.CrewRan.{CrewRan}
 use Rattle.script_crew.specs.declared.crew_script.CrewScript.{CrewScript}
@@ -34,12 +35,14 @@ pub record TellsLogs (heap : Heap) (text : List ℕ) (closed : ClosedTable) : Ty
   pub tabled : IsOfTable (merged_history (crew_preamble heap) entries) closed
   pub rendered : text ≡ text_of (history_lines (merged_history (crew_preamble heap) entries))
 
--- the crew ran the jobs on a table of this heap, which opened for it
+-- the crew ran the jobs on the seats of a table of this heap, which opened for it: none of them had told anything, so what the crew made is all that their logs tell
 pub record HasRun (heap : Heap) (jobs : List Job) (ran : CrewRan) : Type 0 where
   pub collector : CollectorValue
   pub of_heap : collector.holder.heap ≡ heap
   pub opened : collector.holder.known.collector.log ≡ []
-  pub whole : IsCrewRan jobs collector ran
+  pub seats : List SeatHeld
+  pub silent : All (λ seat. seat.seat.mine ≡ []) seats
+  pub whole : IsCrewRan jobs seats collector ran
 
 -- the text tells what the crew came to: the history, or a line for the run of each job
 abbrev pub TellsCrew : Bool → Heap → List Job → CrewRan → List ℕ → Type 0

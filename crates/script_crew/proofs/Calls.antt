@@ -1,6 +1,6 @@
 -- What the calls of runs come to, and that a seat has numbers left for them.
 use Rattle.std.proofs.Common.{◌≡◌, ℕ, zero, suc, ◌+◌, ◌*◌, ◌<◌, ◌≤◌, List, [], ◌∷◌, ◌++◌, length, map, get_or, take, refl, sym, ap, ◌∙◌, subst, append_assoc, arith}
-use Rattle.std.specs.Prelude.{All, sum_by}
+use Rattle.std.specs.Prelude.{All, slice_index, sum_by}
 use Rattle.std.specs.List.{range_with_len}
 use Rattle.std.proofs.lemmas.Grind.{flat_map-append}
 use Rattle.std.proofs.lemmas.List.{length-append, length-map, get_or-map, take_more, length-take-le}
@@ -18,10 +18,10 @@ use Rattle.heap_runs.specs.CollectCall.{IsPresent}
 use Rattle.heap_runs.specs.SeatWork.{GoesOn, IsOfScript, MayMakeNext, MayWork, objects_of, sets_of}
 use Rattle.script_crew.specs.declared.job.Job.{Job}
 use Rattle.script_crew.specs.declared.position_rule.Tally.{Tally}
-use Rattle.script_crew.specs.Jobs.{AreJobs, IsJob, IsOfJob, HasUsed, calls_at, command_count, script_of_run}
+use Rattle.script_crew.specs.Jobs.{AreJobs, IsJob, IsOfJob, HasUsed, calls_at, command_count, positions_of, script_at, script_of_run}
 use Rattle.script_crew.specs.Positions.{HasPopped}
 use Rattle.script_crew.specs.Runs.{clears, with_polls}
-use Rattle.script_crew.specs.Working.{positions_of}
+use Rattle.script_crew.proofs.Portions.{script_here}
 use Rattle.script_crew.proofs.SameLists.{sum_by-map}
 
 -- who has a name and a stamp left has the number that any command asks for
@@ -104,19 +104,21 @@ calls_of_all : (jobs : List Job) → sum_by calls_of jobs ≡ 15 * length jobs +
 calls_of_all [] = refl
 calls_of_all (job ∷ jobs) = omega (arith, sum_by-cons calls_of job jobs, sum_by-cons (λ (one : Job). length one.commands.items) job jobs, calls_are job, calls_of_all jobs)
 
+-- what stands at a position has its calls
+calls_here : (jobs : List Job) (position : ℕ) → slice_index (map calls_of jobs) position ≡ calls_at jobs position
+calls_here [] position = refl
+calls_here (job ∷ jobs) zero = refl
+calls_here (job ∷ jobs) (suc position) = calls_here jobs position
+
 calls_by_position : (jobs : List Job) → sum_by (calls_at jobs) (positions_of jobs) ≡ sum_by calls_of jobs
 calls_by_position jobs =
     let same : ℕ → ℕ = λ n. n in
-    let all : map (calls_at jobs) (positions_of jobs) ≡ map calls_of jobs = sym (fill_by_all (calls_at jobs) (map calls_of jobs) (length jobs) 0 (length-map jobs calls_of) (λ k few. refl)) in
+    let all : map (calls_at jobs) (positions_of jobs) ≡ map calls_of jobs = sym (fill_by_all (calls_at jobs) (map calls_of jobs) (length jobs) 0 (length-map jobs calls_of) (λ k few. calls_here jobs k)) in
     sym (sum_by-map same (calls_at jobs) (positions_of jobs)) ∙ (ap (sum_by same) all ∙ sum_by-map same calls_of jobs)
 
 -- they are fewer than a seat has stamps
 pub few_calls : (jobs : List Job) → length jobs ≤ 4096 → command_count jobs ≤ 1048576 → sum_by (calls_at jobs) (positions_of jobs) < stamp_limit
 few_calls jobs count few = omega (arith, calls_by_position jobs, calls_of_all jobs, count, few)
-
--- the calls at a position are those of the job there
-pub calls_at_position : (jobs : List Job) (position : ℕ) (job : Job) → position < length jobs → job ≡ get_or jobs position job → length (script_of_run job) ≡ calls_at jobs position
-calls_at_position jobs position job within is = ap calls_of is ∙ sym (get_or-map calls_of jobs position job 0 within)
 
 -- a seat that has used no more than runs at the popped positions may run the job whose position is popped next
 pub may_run : (jobs : List Job) (old new : Tally) (position : ℕ) (job : Job) (seat : SeatHeld) → AreJobs jobs → old.known ≡ positions_of jobs → HasPopped old position new
@@ -131,7 +133,7 @@ may_run jobs old new position job seat fit known popped within is used present =
     enough : calls_of job + sum_by (calls_at jobs) old.popped < stamp_limit
     enough = omega (
       arith,
-      calls_at_position jobs position job within is,
+      ap (λ commands. length commands) (script_here jobs position job within is),
       popped.within (calls_at jobs),
       ap (λ (one : Tally). sum_by (calls_at jobs) one.popped) popped.one_more,
       sum_by_push (calls_at jobs) old.popped position,

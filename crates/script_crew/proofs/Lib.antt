@@ -1,6 +1,8 @@
 pub mod Sums
 pub mod PassMoves
 pub mod SameLists
+pub mod SameMeasures
+pub mod Portions
 pub mod Turns
 pub mod Running
 pub mod Joining

@@ -4,7 +4,7 @@ use Rattle.std.specs.Prelude.{slice_index, sum_by}
 use Rattle.std.proofs.lemmas.List.{length-append, map-append}
 use Rattle.std.proofs.lemmas.List.Elements.{All-weaker, All-push, All-nil, All-get_or}
 use Rattle.std.proofs.lemmas.List.Quantifiers.{all_pairs_push}
-use Rattle.std.proofs.lemmas.List.Sums.{sum_by-append, sum_by_push}
+use Rattle.std.proofs.lemmas.List.Sums.{sum_by-append}
 use Rattle.atomic_table.specs.Seated.{TableId}
 use Rattle.heap_model.specs.declared.command.Command.{Command}
 use Rattle.heap_model.specs.declared.entry.Entry.{Entry}
@@ -17,10 +17,11 @@ use Rattle.heap_runs.proofs.CommandsOn.{goes_then, none_paid}
 use Rattle.script_crew.specs.declared.job.Job.{Job}
 use Rattle.script_crew.specs.declared.job.JobRun.{JobRun}
 use Rattle.script_crew.specs.declared.position_rule.Tally.{Tally}
-use Rattle.script_crew.specs.Jobs.{HasUsed, calls_at}
+use Rattle.script_crew.specs.Jobs.{HasUsed, calls_at, script_at, scripts_at}
 use Rattle.script_crew.specs.Positions.{tally, HasPopped}
 use Rattle.script_crew.specs.Runs.{job_numbers, clears, with_polls, EndsBefore, TellsFromTo, IsRunOn, IsRunOf}
 use Rattle.script_crew.specs.Working.{HasRun}
+use Rattle.script_crew.proofs.Portions.{length_of_scripts, scripts_more}
 
 -- a log that grows tells what it told
 tells_on : (number : ℕ) (log more : List Entry) (commands : List Command) (from to : ℕ) → TellsFromTo number log commands from to → TellsFromTo number (log ++ more) commands from to
@@ -116,26 +117,22 @@ none_run jobs one seat runs present none = subst (HasRun jobs one one seat seat)
   positions = [];
   popped = λ i. tally one.shares one.pushed (sym (append-nil one.popped) i) one.known;
   numbers = refl;
-  commands = [];
   goes_on = none_made seat present;
-  calls = omega arith;
   on_seat = All-nil (IsRunOn jobs seat);
   begin = All-nil (λ run. length seat.seat.mine ≤ run.from);
   in_turn = λ i j d less few. absurd (omega (arith, few));
 })
 
 -- one job more was run
-pub one_more_run : (jobs : List Job) (first old new : Tally) (start before after : SeatHeld) (runs : List JobRun) (position : ℕ) (run : JobRun) (script : List Command) → HasRun jobs first old start before runs
-    → HasPopped old position new → GoesOn 1 before after script → length script ≡ calls_at jobs position → IsRunOn jobs after run → length before.seat.mine ≤ run.from
+pub one_more_run : (jobs : List Job) (first old new : Tally) (start before after : SeatHeld) (runs : List JobRun) (position : ℕ) (run : JobRun) → HasRun jobs first old start before runs
+    → HasPopped old position new → GoesOn 1 before after (script_at jobs position) → IsRunOn jobs after run → length before.seat.mine ≤ run.from
     → run.job ≡ slice_index (job_numbers jobs) position → HasRun jobs first new start after (runs ++ run ∷ [])
-one_more_run jobs first old new start before after runs position run script had popped on calls ran behind number = record {
+one_more_run jobs first old new start before after runs position run had popped on ran behind number = record {
   positions = had.positions ++ position ∷ [];
   popped = popped.one_more ∙ (λ i. tally (had.popped i).shares (had.popped i).pushed (longer i) (had.popped i).known);
   numbers = map-append (λ one. one.job) runs (run ∷ []) ∙ ((λ i. had.numbers i ++ number i ∷ []) ∙ sym (map-append (λ one. slice_index (job_numbers jobs) one) had.positions (position ∷ [])));
-  commands = had.commands ++ script;
-  goes_on = goes_then 1 start before after had.commands script had.goes_on on;
-  calls = omega (arith, had.calls, calls, length-append had.commands script, sum_by_push (calls_at jobs) had.positions position);
-  on_seat = All-push (IsRunOn jobs after) runs run (All-weaker (IsRunOn jobs before) (IsRunOn jobs after) (run_stays jobs before after script on.made) runs had.on_seat) ran;
+  goes_on = subst (GoesOn 1 start after) (scripts_more jobs had.positions position) (goes_then 1 start before after (scripts_at jobs had.positions) (script_at jobs position) had.goes_on on);
+  on_seat = All-push (IsRunOn jobs after) runs run (All-weaker (IsRunOn jobs before) (IsRunOn jobs after) (run_stays jobs before after (script_at jobs position) on.made) runs had.on_seat) ran;
   begin = All-push (λ one. length start.seat.mine ≤ one.from) runs run had.begin
       (omega (arith, ap (λ log. length log) had.goes_on.made.mine, length-append start.seat.mine had.goes_on.made.part, behind));
   in_turn = all_pairs_push EndsBefore runs run had.in_turn (λ k d few same.
@@ -152,6 +149,6 @@ has_used jobs old new before after runs ran used =
     let sum = ap (λ (one : Tally). sum_by (calls_at jobs) one.popped) ran.popped in
     let both = sum_by-append (calls_at jobs) old.popped ran.positions in
     record {
-      objects = omega (arith, sum, both, used.objects, ran.goes_on.objects, ran.calls);
-      sets = omega (arith, sum, both, used.sets, ran.goes_on.sets, ran.calls);
+      objects = omega (arith, sum, both, used.objects, ran.goes_on.objects, length_of_scripts jobs ran.positions);
+      sets = omega (arith, sum, both, used.sets, ran.goes_on.sets, length_of_scripts jobs ran.positions);
     }

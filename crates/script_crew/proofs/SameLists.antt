@@ -11,9 +11,10 @@ use Rattle.std.proofs.lemmas.List.Sums.{sum_by-cons, sum_by-le, sum_by_push}
 use Rattle.script_crew.specs.declared.job.Job.{Job}
 use Rattle.script_crew.specs.declared.job.JobRun.{JobRun}
 use Rattle.script_crew.specs.declared.position_rule.Tally.{Tally}
+use Rattle.script_crew.specs.Jobs.{positions_of}
 use Rattle.script_crew.specs.Positions.{HasPopped}
 use Rattle.script_crew.specs.Runs.{job_numbers, run_numbers}
-use Rattle.script_crew.specs.Working.{positions_of, numbers_at}
+use Rattle.script_crew.specs.Working.{numbers_at}
 
 -- where a list doesn't fall, its first number is at most each that a list with the same measures has first
 first_is_least : (x y : ℕ) (xs ys : List ℕ) → IsNonDecreasing (y ∷ ys) → ((measure : ℕ → ℕ) → sum_by measure (x ∷ xs) ≡ sum_by measure (y ∷ ys)) → y < suc x

@@ -1,5 +1,6 @@
 -- Which jobs a crew is given, and how many calls they come to.
-use Rattle.std.specs.Prelude.{◌≢◌, ℕ, ◌<◌, ◌≤◌, List, ◌++◌, length, map, slice_index, sum_by, All}
+use Rattle.std.specs.Prelude.{◌≢◌, ℕ, ◌<◌, ◌≤◌, List, [], ◌++◌, length, map, slice_index_or, sum_by, All}
+use Rattle.std.specs.List.{flat_map, range_with_len}
 use Rattle.std.specs.List.Sorted.{IsStrictlyIncreasing}
 use Rattle.heap_model.specs.Limits.{stamp_limit}
 use Rattle.heap_model.specs.declared.command.Command.{Command}
@@ -32,9 +33,21 @@ pub record AreJobs (jobs : List Job) : Type 0 where
 abbrev pub script_of_run : Job → List Command
 script_of_run job = clears ++ with_polls job.commands.items
 
+-- the positions of the jobs
+abbrev pub positions_of : List Job → List ℕ
+positions_of jobs = range_with_len 0 (length jobs)
+
+-- what a seat is called for where it runs the job at this position
+abbrev pub script_at : List Job → ℕ → List Command
+script_at jobs position = slice_index_or (map script_of_run jobs) position []
+
+-- what a seat is called for where it runs the jobs at these positions, one behind the other
+abbrev pub scripts_at : List Job → List ℕ → List Command
+scripts_at jobs positions = flat_map (script_at jobs) positions
+
 -- how many calls a run of the job at this position makes
 abbrev pub calls_at : List Job → ℕ → ℕ
-calls_at jobs position = slice_index (map (λ job. length (script_of_run job)) jobs) position
+calls_at jobs position = length (script_at jobs position)
 
 -- the seat has done fewer sets than it has stamps
 abbrev pub HasFewSets : SeatHeld → Type 0

@@ -3,6 +3,7 @@ pub mod Jobs
 pub mod Leaving
 pub mod Positions
 pub mod Runs
+pub mod Portions
 pub mod Tasks
 pub mod Working
 pub mod CrewText

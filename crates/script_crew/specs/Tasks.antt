@@ -21,5 +21,5 @@ module _ {Q A : Type 0} where
 
   -- each worker of the task has ended
   abbrev pub EndsTask : Slotted (Option ℕ) (Doing ℕ Tally) Q A → List Job → TableId → Heap → Task → List (Result Worked Memory) → Type 0
-  EndsTask queue jobs table heap (Jobs workers) done = HaveEnded queue jobs table heap (vec_len workers) done
+  EndsTask queue jobs table heap (Jobs workers) done = HaveEnded queue jobs table heap (map (λ worker. worker.seat) workers.items) done
   EndsTask queue jobs table heap Slack done = Unit {0}

@@ -45,7 +45,7 @@ fn run_jobs<N: HeldName + Send + Sync, G: Gate, R: Threads + Wait + Sync>(
     requires seats { vec_len seats ≤ 16 }
     requires numbered { seat_numbers seats.items ≡ range_with_len 0 (vec_len seats) }
     requires fresh { All (IsFreshSeat N.table N.heap) seats.items }
-    ensures { IfOk result (HasRunAll jobs.now N.table N.heap (vec_len seats)) }
+    ensures { IfOk result (HasRunAll jobs.now N.table N.heap seats.items) }
 {
     let (queue, mut pass) = PositionQueue::ruled(alloc, jobs.len())?;
     let queue = &queue;
@@ -77,7 +77,7 @@ fn run_named<N: HeldName + Send + Sync, G: Gate, R: Threads + Wait + Sync>(
     requires crew { IsCrew seats.items collector }
     requires some { 0 < length jobs.now }
     requires jobs { AreJobs jobs.now }
-    ensures { IfOk result (IsCrewRan jobs.now collector) }
+    ensures { IfOk result (IsCrewRan jobs.now seats.items collector) }
 {
     // What is true of every collector's heap is known from here on.
     let _ = collector.heap();
@@ -105,7 +105,7 @@ pub fn run_crew<G: Gate, R: Threads + Wait + Sync>(
     requires crew { IsCrew seats.items collector }
     requires some { 0 < length jobs.now }
     requires jobs { AreJobs jobs.now }
-    ensures { IfOk result (IsCrewRan jobs.now collector) }
+    ensures { IfOk result (IsCrewRan jobs.now seats.items collector) }
 {
     run_named::<Brand, G, R>(rt, alloc, seats, collector, jobs, pace, gate)
 }

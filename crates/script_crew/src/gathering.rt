@@ -1,8 +1,9 @@
-ghost use Rattle.std.specs.Prelude.{◌≡◌, ◌-◌, ◌<◌, [], vec_len, IfOk};
+ghost use Rattle.std.specs.Prelude.{◌≡◌, ◌-◌, ◌<◌, [], List, vec_len, IfOk};
 ghost use Rattle.crossbeam_queue.specs.Passes.{view, IsPassOf};
-ghost use Rattle.script_crew.specs.Jobs.{AreJobs};
+ghost use Rattle.heap_table.specs.SeatHeld.{SeatHeld};
+ghost use Rattle.script_crew.specs.Jobs.{positions_of, AreJobs};
 ghost use Rattle.script_crew.specs.Positions.{all_shares, tally};
-ghost use Rattle.script_crew.specs.Working.{positions_of, HaveWorked, HaveRun, HasRunAll};
+ghost use Rattle.script_crew.specs.Working.{HaveEnded, HaveEndedOnSome, HaveRun, HasRunAll};
 
 use crate::job::JobRun;
 use crate::position_rule::{PositionPass, Sharing};
@@ -31,9 +32,10 @@ fn join_all<N: HeldName, G: Gate>(
     requires some { 0 < (view pass.old).shares }
     requires popped { (view pass.old).popped ≡ [] }
     requires known { (view pass.old).known ≡ positions_of site.now.jobs.now }
-    requires worked { HaveWorked site.now.queue.now site.now.jobs.now N.table N.heap done.items }
+    requires ended { HaveEndedOnSome site.now.queue.now site.now.jobs.now N.table N.heap done.items }
     ensures queue { IsPassOf site.now.queue.now pass.new }
-    ensures joined { IfOk result (λ crew. HaveRun site.now.jobs.now N.table N.heap (view pass.old) (vec_len done) (view pass.new) crew) }
+    ensures joined { (olds : List SeatHeld) → HaveEnded site.now.queue.now site.now.jobs.now N.table N.heap olds done.items →
+        IfOk result (λ crew. HaveRun site.now.jobs.now N.table N.heap olds (view pass.old) (view pass.new) crew) }
 {
     let mut crew = Crew {
         seats: Vec::new(site.alloc),
@@ -67,8 +69,9 @@ pub fn run_rest<N: HeldName, G: Gate, R: Wait>(
     requires queue { IsPassOf site.now.queue.now pass.old }
     requires pushed { view pass.old ≡ tally (all_shares - vec_len done) (positions_of site.now.jobs.now) [] (positions_of site.now.jobs.now) }
     requires shares { vec_len done < all_shares }
-    requires worked { HaveWorked site.now.queue.now site.now.jobs.now N.table N.heap done.items }
-    ensures { IfOk result (HasRunAll site.now.jobs.now N.table N.heap (vec_len done)) }
+    requires ended { HaveEndedOnSome site.now.queue.now site.now.jobs.now N.table N.heap done.items }
+    ensures { (olds : List SeatHeld) → HaveEnded site.now.queue.now site.now.jobs.now N.table N.heap olds done.items →
+        IfOk result (HasRunAll site.now.jobs.now N.table N.heap olds) }
 {
     let mut crew = join_all::<N, G>(site, pass, done)?;
     let mut begun = crew.begun.first().copied().unwrap_or(0);

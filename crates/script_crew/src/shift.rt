@@ -30,7 +30,7 @@ fn work_each<N: HeldName + Send + Sync, G: Gate, R: Threads + Wait + Sync>(
     requires jobs { AreJobs site.now.jobs.now }
     requires fresh { All (IsFresh site.now.queue.now site.now.jobs.now N.table N.heap) workers.items }
     requires numbered { map (λ worker. worker.seat.number) workers.items ≡ range_with_len 0 (vec_len workers) }
-    ensures { IfOk result (λ done. HaveEnded site.now.queue.now site.now.jobs.now N.table N.heap (vec_len workers) done.items) }
+    ensures { IfOk result (λ done. HaveEnded site.now.queue.now site.now.jobs.now N.table N.heap (map (λ worker. worker.seat) workers.items) done.items) }
 {
     let done = map_vec(
         rt,
@@ -38,7 +38,7 @@ fn work_each<N: HeldName + Send + Sync, G: Gate, R: Threads + Wait + Sync>(
         &|worker: Worker| -> Result<Worked, Memory>
             requires jobs { AreJobs site.now.jobs.now }
             requires fresh { IsFresh site.now.queue.now site.now.jobs.now N.table N.heap worker }
-            ensures { IfOk result (HasWorked site.entry.now.queue.now site.entry.now.jobs.now N.table N.heap worker.seat.number) }
+            ensures { IfOk result (HasWorked site.entry.now.queue.now site.entry.now.jobs.now N.table N.heap worker.seat) }
         { work(rt, held, site, worker) },
     );
     held.lock(rt).end();
@@ -75,7 +75,7 @@ pub fn work_all<N: HeldName + Send + Sync, G: Gate, R: Threads + Wait + Sync>(
 ) -> Result<Vec<Result<Worked, Memory>>, Memory>
     requires jobs { AreJobs site.now.jobs.now }
     requires task { IsTask site.now.queue.now site.now.jobs.now N.table N.heap (Jobs workers) }
-    ensures { IfOk result (λ done. HaveEnded site.now.queue.now site.now.jobs.now N.table N.heap (vec_len workers) done.items) }
+    ensures { IfOk result (λ done. HaveEnded site.now.queue.now site.now.jobs.now N.table N.heap (map (λ worker. worker.seat) workers.items) done.items) }
 {
     let mut tasks = Vec::new(site.alloc);
     tasks.push(Task::Slack)?;

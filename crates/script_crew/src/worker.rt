@@ -1,9 +1,9 @@
 ghost use Rattle.std.specs.Prelude.{◌≡◌, ◌<◌, IfOk, OnOk};
 ghost use Rattle.crossbeam_queue.specs.Fifo.{Held as HeldItems};
 ghost use Rattle.crossbeam_queue.specs.Passes.{view, IsPassOf};
-ghost use Rattle.script_crew.specs.Jobs.{AreJobs};
+ghost use Rattle.script_crew.specs.Jobs.{positions_of, AreJobs};
 ghost use Rattle.script_crew.specs.Positions.{Settles};
-ghost use Rattle.script_crew.specs.Working.{positions_of, IsAtWork, HasRun, IsFresh, HasWorked};
+ghost use Rattle.script_crew.specs.Working.{IsAtWork, HasRun, IsFresh, HasWorked};
 
 use crate::job::JobRun;
 use crate::job_run::run_job;
@@ -70,7 +70,7 @@ fn run_all<N: HeldName, G: Gate, R: Wait>(
 ) -> Result<Worked, Memory>
     requires jobs { AreJobs site.now.jobs.now }
     requires fresh { IsFresh site.now.queue.now site.now.jobs.now N.table N.heap worker }
-    ensures { IfOk result (HasWorked site.now.queue.now site.now.jobs.now N.table N.heap worker.seat.number) }
+    ensures { IfOk result (HasWorked site.now.queue.now site.now.jobs.now N.table N.heap worker.seat) }
 {
     let mut begun = 0;
     let runs = run_popped(
@@ -97,7 +97,7 @@ pub fn work<N: HeldName, G: Gate, R: Wait>(
 ) -> Result<Worked, Memory>
     requires jobs { AreJobs site.now.jobs.now }
     requires fresh { IsFresh site.now.queue.now site.now.jobs.now N.table N.heap worker }
-    ensures { IfOk result (HasWorked site.now.queue.now site.now.jobs.now N.table N.heap worker.seat.number) }
+    ensures { IfOk result (HasWorked site.now.queue.now site.now.jobs.now N.table N.heap worker.seat) }
 {
     let worked = run_all(rt, held, site, worker);
     held.lock(rt).end_one();

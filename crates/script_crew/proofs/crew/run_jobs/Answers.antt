@@ -1,7 +1,7 @@
 use Rattle.std.proofs.Common.{◌≡◌, ap, subst, ◌∙◌, sym}
-use Rattle.std.specs.Prelude.{All, vec_len}
+use Rattle.std.specs.Prelude.{All, IfOk, vec_len}
 use Rattle.script_crew.specs.declared.position_rule.Tally.{Tally}
-use Rattle.script_crew.specs.Working.{HasFreshPass}
+use Rattle.script_crew.specs.Working.{HasFreshPass, HasRunAll}
 use Rattle.script_crew.proofs.WholeCrew.{as_many, workers_are_fresh, workers_are_numbered}
 use Rattle.script_crew.proofs.crew.run_jobs.Goals as goal
 
@@ -15,3 +15,9 @@ work_all-requires-clause-task g c κs within =
           c.in_ok-workers.ensures.seats c.requires.fresh,
       workers_are_numbered workers.items seats.items _ _ c.in_ok-workers.ensures.seats c.requires.numbered many,
     )
+
+pub run_rest-requires-clause-ended : goal.run_rest-requires-clause-ended
+run_rest-requires-clause-ended g c κs within = (_, c.in_ok-done.ensures)
+
+pub returns : goal.returns
+returns g c = subst (λ seats. IfOk c.run_rest.result (HasRunAll c.args.jobs.now g.N.HeldName.table g.N.HeldName.heap seats)) c.in_ok-workers.ensures.seats (c.run_rest.ensures _ c.in_ok-done.ensures)

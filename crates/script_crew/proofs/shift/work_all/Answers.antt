@@ -1,4 +1,4 @@
-use Rattle.std.proofs.Common.{◌≡◌, ◌<◌, [], ◌∷◌, ◌++◌, length, get_or, List, IfOk, ap, sym, ◌∙◌, subst, arith}
+use Rattle.std.proofs.Common.{◌≡◌, ◌<◌, [], ◌∷◌, ◌++◌, length, get_or, map, List, IfOk, ap, sym, ◌∙◌, subst, arith}
 use Rattle.std.proofs.lemmas.List.{length-append}
 use Rattle.std.proofs.lemmas.Result.{IfOk-from_err}
 use Rattle.script_crew.specs.declared.shift.Task.{Task}
@@ -42,5 +42,5 @@ returns g c =
     let few : 1 < length c.push-2.new.self.items = omega (arith, ap length tasks) in
     let gives = (c.in_ok-both.ensures.each 1 done few).1 in
     let task : gives.job ≡ Jobs workers = sym (gives.job_is gives.job) ∙ ap (λ (ts : List Task). get_or ts 1 gives.job) tasks in
-    subst (λ one. IfOk one (λ ends. HaveEnded queue jobs table heap workers.len ends.items)) (last_of_two both c.pop.new.self.items done c.in-Some.ensures.items two)
+    subst (λ one. IfOk one (λ ends. HaveEnded queue jobs table heap (map (λ worker. worker.seat) workers.items) ends.items)) (last_of_two both c.pop.new.self.items done c.in-Some.ensures.items two)
     (subst (λ (one : Task). IfOk (get_or both 1 done) (λ ends. EndsTask queue jobs table heap one ends.items)) task gives.call.met)

@@ -1,4 +1,4 @@
-use Rattle.std.proofs.Common.{ap, refl, subst, sym}
+use Rattle.std.proofs.Common.{ap, subst, sym}
 use Rattle.crossbeam_queue.specs.Passes.{view}
 use Rattle.script_crew.specs.declared.position_rule.Tally.{Tally}
 use Rattle.script_crew.specs.Working.{HasRun, IsAtWork}
@@ -11,8 +11,6 @@ run_popped-requires-clause-seat g c κs within =
 pub returns : goal.returns
 returns g c = record {
   of_queue = c.in_ok-runs.ensures.queue;
-  before = c.args.worker.seat;
-  number_is = refl;
   at_work = c.requires.fresh.at_work;
   ran = subst (λ one. HasRun c.args.site.now.jobs.now one (view c.run_popped.new.pass) c.args.worker.seat c.run_popped.new.seat c.in_ok-runs.runs.items) c.requires.fresh.pass.untouched c.in_ok-runs.ensures.ran;
 }
