@@ -1,7 +1,9 @@
 /*
  * What programs over fodderpause.h write again and again: a stack of roots, and bytes and strings in arrays. Inline functions; nothing is linked.
  *
- * Each answers the code of the first call that wasn't DONE, and DONE where all were. `scratch` is a register that the function may overwrite.
+ * Each answers the code of the first call that wasn't DONE, and DONE where all were. `scratch` is a register that the function may overwrite, another one than those
+ * that it is asked to read or to fill. Those that make an array don't wait for the collector: at FULL or SPINE_FULL nothing is made, and cycles are ended first
+ * (fodderpause_end_cycle twice, in one thread) before they are called again.
  */
 #ifndef FODDERPAUSE_TOOLS_H
 #define FODDERPAUSE_TOOLS_H

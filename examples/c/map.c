@@ -1,5 +1,7 @@
 /* A map that four threads share: a table of lists, to which entries are added, and in which values are changed, by compare and swap, beside a thread that makes the collector's turns. */
 #define _POSIX_C_SOURCE 200809L
+/* Three other threads may take what a cycle frees before the fourth comes to it, which on a busy machine happens again and again. */
+#define FODDERPAUSE_CYCLES 1000
 #include "registers.h"
 
 #include <pthread.h>
