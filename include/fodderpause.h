@@ -182,6 +182,24 @@ typedef struct fodderpause_turned {
     uint64_t kept;
 } fodderpause_turned;
 
+/* What a register holds: its number or its object's number, and its object's seat. */
+typedef struct fodderpause_value_told {
+    uint32_t code;
+    uint32_t kind;
+    uint32_t number;
+    uint32_t seat;
+} fodderpause_value_told;
+
+/* A heap: how many fragments and spine words are in use, the phase, how many cycles have ended, and how many fragments the last of them kept; 0 where none has ended. */
+typedef struct fodderpause_stats_told {
+    uint32_t code;
+    uint32_t fragments;
+    uint64_t spine_words;
+    uint64_t phase;
+    uint64_t cycles;
+    uint64_t kept;
+} fodderpause_stats_told;
+
 /* The version of the library that is linked, counted as FODDERPAUSE_VERSION. */
 uint32_t fodderpause_version(void);
 
@@ -242,6 +260,9 @@ FODDERPAUSE_LOOK fodderpause_phase_told fodderpause_poll(fodderpause_seat *seat)
 /* The seat leaves for good: it gives back what it keeps, and its registers are nil. */
 FODDERPAUSE_LOOK fodderpause_number fodderpause_leave(fodderpause_seat *seat);
 
+/* What register r holds, of a seat that has left nil. No step is made, and nothing is changed. How long an object is tells fodderpause_length. NO_PARTY, OUT_OF_RANGE. */
+FODDERPAUSE_LOOK fodderpause_value_told fodderpause_value(fodderpause_seat *seat, uint32_t r);
+
 /* How many more objects the seat can make, and how many more sets it can do. NO_PARTY. */
 FODDERPAUSE_LOOK fodderpause_number fodderpause_names_left(fodderpause_seat *seat);
 FODDERPAUSE_LOOK fodderpause_sets_told fodderpause_sets_left(fodderpause_seat *seat);
@@ -272,6 +293,13 @@ FODDERPAUSE_LOOK fodderpause_turned fodderpause_turns(fodderpause_collector *col
 
 /* The phase: seven times the number of cycles that have ended, and how far this one is. NO_PARTY. */
 FODDERPAUSE_LOOK fodderpause_phase_told fodderpause_phase(fodderpause_collector *collector);
+
+/*
+ * What is in use. A fragment that a seat keeps for its next objects is, and so is garbage until a cycle has freed it. The call loads one word of each group and one more, one
+ * after another, and changes none. Where no other call of the heap is in flight meanwhile it tells what is in use at that moment; else each word is counted as it was when it
+ * was loaded, which may have been true of all of them at no moment. NO_PARTY.
+ */
+FODDERPAUSE_LOOK fodderpause_stats_told fodderpause_stats(fodderpause_collector *collector);
 
 /* The collector takes in a seat that has left: there is nothing behind the seat's handle then. NO_PARTY, HAS_NOT_LEFT. */
 FODDERPAUSE_LOOK uint32_t fodderpause_fold_in(fodderpause_collector *collector, fodderpause_seat *seat);

@@ -50,6 +50,7 @@ public:
     fodderpause_number copy(uint32_t d, uint32_t r) noexcept { return fodderpause_copy(&handle, d, r); }
     fodderpause_number same(uint32_t a, uint32_t b) noexcept { return fodderpause_same(&handle, a, b); }
     fodderpause_number length(uint32_t r) noexcept { return fodderpause_length(&handle, r); }
+    fodderpause_value_told value(uint32_t r) noexcept { return fodderpause_value(&handle, r); }
     fodderpause_phase_told poll() noexcept { return fodderpause_poll(&handle); }
     fodderpause_number leave() noexcept { return fodderpause_leave(&handle); }
 
@@ -91,6 +92,7 @@ public:
     fodderpause_turned turn() noexcept { return fodderpause_turn(&handle); }
     fodderpause_turned turns(uint64_t n, uint64_t &made) noexcept { return fodderpause_turns(&handle, n, &made); }
     fodderpause_phase_told phase() noexcept { return fodderpause_phase(&handle); }
+    fodderpause_stats_told stats() noexcept { return fodderpause_stats(&handle); }
     uint32_t fold_in(seat &other) noexcept { return fodderpause_fold_in(&handle, other.c()); }
     uint32_t close() noexcept { return fodderpause_close(&handle); }
 

@@ -113,6 +113,8 @@ static void call_with_too_large(fodderpause_seat *seat)
     is("register 257 copied", fodderpause_copy(seat, 1, 257).code, FODDERPAUSE_OUT_OF_RANGE);
     is("registers 1 and 257", fodderpause_same(seat, 1, 257).code, FODDERPAUSE_OUT_OF_RANGE);
     is("the length in register 256", fodderpause_length(seat, 256).code, FODDERPAUSE_OUT_OF_RANGE);
+    is("the value in register 16", fodderpause_value(seat, 16).code, FODDERPAUSE_OUT_OF_RANGE);
+    is("the value in register 256", fodderpause_value(seat, 256).code, FODDERPAUSE_OUT_OF_RANGE);
     is("seat 257 behind", fodderpause_behind(seat, 257).code, FODDERPAUSE_OUT_OF_RANGE);
     is("seat 257 noted", fodderpause_note_waits(seat, 257, 0, 1), FODDERPAUSE_NOT_FOUND);
     is("register 1 is nil still", fodderpause_length(seat, 1).code, FODDERPAUSE_NO_OBJECT);
@@ -140,16 +142,44 @@ static void call_refused(fodderpause_seat *seat)
     is("closed", fodderpause_close(&collector), FODDERPAUSE_NOT_FOLDED);
 }
 
-/* The heap has 32 fragments, of which the board has eleven. */
+/* What is in use, the last number that was kept, and how many cycles have ended. */
+static void stats_are(uint32_t fragments, uint64_t spine_words, uint64_t kept, uint64_t cycles)
+{
+    fodderpause_stats_told told = fodderpause_stats(&collector);
+    is("stats", told.code, FODDERPAUSE_DONE);
+    is("fragments in use", told.fragments, fragments);
+    is("spine words in use", told.spine_words, spine_words);
+    is("kept", told.kept, kept);
+    is("cycles", told.cycles, cycles);
+    is("their phase", told.phase, fodderpause_phase(&collector).phase);
+}
+
+/* What a register holds. */
+static void value_is(fodderpause_seat *seat, uint32_t r, uint32_t kind, uint32_t number)
+{
+    fodderpause_value_told told = fodderpause_value(seat, r);
+    is("a value", told.code, FODDERPAUSE_DONE);
+    is("its kind", told.kind, kind);
+    is("its number", told.number, number);
+    is("its seat", told.seat, 0);
+}
+
+/* The heap has 32 fragments, of which the board has eleven. The seat's first record takes the five that are left of the first group, its second the whole of the other. */
 static void call(fodderpause_seat *seat)
 {
+    stats_are(11, 0, 0, 0);
+    value_is(seat, 0, FODDERPAUSE_BOARD, 0);
+    value_is(seat, 1, FODDERPAUSE_NIL, 0);
     fodderpause_made made = fodderpause_new_record(seat, 1, 2);
     is("a record", made.code, FODDERPAUSE_DONE);
     is("its seat", made.seat, 0);
     is("its number", made.count, 0);
+    stats_are(16, 0, 0, 0);
+    value_is(seat, 1, FODDERPAUSE_OBJECT, 0);
     is("a number", fodderpause_load_number(seat, 2, 7).code, FODDERPAUSE_DONE);
     fodderpause_number was = fodderpause_set(seat, 1, 0, 2);
     is("the stamp before", was.number, 0);
+    value_is(seat, 2, FODDERPAUSE_NUMBER, 7);
     fodderpause_cell cell = fodderpause_get(seat, 3, 1, 0);
     is("what the field holds", cell.kind, FODDERPAUSE_NUMBER);
     is("which number", cell.number, 7);
@@ -168,6 +198,9 @@ static void call(fodderpause_seat *seat)
     is("47 fields more", made.code, FODDERPAUSE_FULL);
     is("sixteen needed", made.need, 16);
     is("four found", made.found, 4);
+    value_is(seat, 5, FODDERPAUSE_OBJECT, 1);
+    value_is(seat, 6, FODDERPAUSE_NIL, 0);
+    stats_are(32, 0, 0, 0);
 }
 
 /* Two looks that find both seats' answers, the advance, and the look that finds seat 0 behind: four turns, of which the last waits. */
@@ -220,6 +253,7 @@ static void end_cycles(void)
     is("the phase", fodderpause_phase(&collector).phase, 7);
     is("a look again", fodderpause_look(&seats[0]).phase, 7);
     is("noted", fodderpause_note_cycle(&seats[0], 0), FODDERPAUSE_DONE);
+    stats_are(32, 0, 32, 1);
 }
 
 static void close_all(void)
@@ -227,6 +261,7 @@ static void close_all(void)
     for (int k = 0; k < 2; k++) {
         is("left", fodderpause_leave(&seats[k]).code, FODDERPAUSE_DONE);
         is("a call behind that", fodderpause_nil(&seats[k], 1).code, FODDERPAUSE_HAS_LEFT);
+        value_is(&seats[k], 5, FODDERPAUSE_NIL, 0);
         is("a look behind that", fodderpause_look(&seats[k]).code, FODDERPAUSE_HAS_LEFT);
         is("folded in", fodderpause_fold_in(&collector, &seats[k]), FODDERPAUSE_DONE);
         is("folded in again", fodderpause_fold_in(&collector, &seats[k]), FODDERPAUSE_NO_PARTY);

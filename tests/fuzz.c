@@ -124,6 +124,7 @@ static void take_cycles(void)
 {
     fodderpause_phase_told told = fodderpause_phase(&collector);
     same("a phase", told.code, FODDERPAUSE_DONE);
+    model.knows_kept = model.knows_kept && told.phase / 7 == model.phase / 7;
     if (told.phase != model.phase) {
         for (uint32_t number = 0; number < model.count; number++) {
             model_seat *seat = &model.seats[number];
@@ -259,6 +260,19 @@ static void look_at_registers(void)
     }
 }
 
+/* What a register holds, and that nothing comes of the look. */
+static void look_at_value(void)
+{
+    uint32_t r = around(0, 15);
+    fodderpause_value_told told = fodderpause_value(called.handle, r);
+    uint32_t wanted = called.seat == NULL ? FODDERPAUSE_NO_PARTY : r > 15 ? FODDERPAUSE_OUT_OF_RANGE : FODDERPAUSE_DONE;
+    cell there = wanted == FODDERPAUSE_DONE ? called.seat->registers[r] : (cell) {FODDERPAUSE_NIL, 0, 0, 0};
+    same("a value's code", told.code, wanted);
+    same("a value's kind", told.kind, there.kind);
+    same("a value's number", told.number, there.number);
+    same("a value's seat", told.seat, there.seat);
+}
+
 static void count_left(void)
 {
     fodderpause_number names = fodderpause_names_left(called.handle);
@@ -377,7 +391,42 @@ static void turn(void)
         same("one phase at most", model.phase - phase <= 1, 1);
         same("an end", turned.kind == FODDERPAUSE_ENDED, model.phase != phase && model.phase % 7 == 0);
         same("the cycle that ended", turned.cycle, turned.kind == FODDERPAUSE_ENDED ? model.phase / 7 - 1 : 0);
+        if (turned.kind == FODDERPAUSE_ENDED) {
+            model.kept = turned.kept;
+            model.knows_kept = true;
+        }
     }
+}
+
+/* What is in use is what is reached, what the seats may keep, and garbage. */
+static fodderpause_stats_told read_stats(void)
+{
+    fodderpause_stats_told told = fodderpause_stats(&collector);
+    reach_all();
+    same("stats", told.code, FODDERPAUSE_DONE);
+    same("the phase that is read", told.phase, model.phase);
+    same("the cycles", told.cycles, model.phase / 7);
+    same("in use is what is reached", told.fragments >= reached_fragments && told.spine_words >= reached_spine, 1);
+    same("no more is in use than there is", told.fragments <= 16 * model.groups && told.spine_words <= model.spine, 1);
+    if (model.knows_kept) {
+        same("what was kept", told.kept, model.kept);
+    }
+    return told;
+}
+
+/* Where two cycles have ended, no garbage is left, and a call that tells it changes nothing. */
+static void collect_and_read(void)
+{
+    for (int cycles = 0; cycles < 2; cycles++) {
+        same("a cycle's end", fodderpause_end_cycle(&collector, seats, model.count), FODDERPAUSE_DONE);
+        model.knows_kept = false;
+        take_cycles();
+    }
+    fodderpause_stats_told told = read_stats();
+    same("only what seats keep is in use beside what is reached", told.fragments <= reached_fragments + most_kept(), 1);
+    same("the last cycle has kept what is in use", told.kept, told.fragments);
+    same("the spine words that are reached", told.spine_words, reached_spine);
+    same("the fragments once more", fodderpause_stats(&collector).fragments, told.fragments);
 }
 
 static void fold_in(void)
@@ -404,6 +453,7 @@ static void refuse(void)
     fodderpause_collector none = FODDERPAUSE_NO_COLLECTOR;
     same("no turn", fodderpause_turn(drawn(2) ? &none : (fodderpause_collector *) (void *) &seats[0]).code, FODDERPAUSE_NO_PARTY);
     same("no phase", fodderpause_phase(&none).code, FODDERPAUSE_NO_PARTY);
+    same("no stats", fodderpause_stats(drawn(2) ? &none : (fodderpause_collector *) (void *) &seats[0]).code, FODDERPAUSE_NO_PARTY);
     same("nobody folded in", fodderpause_fold_in(&collector, &nobody), FODDERPAUSE_NO_PARTY);
     same("folded in by nobody", fodderpause_fold_in(&none, &seats[0]), FODDERPAUSE_NO_PARTY);
     same("nobody let go", fodderpause_drop_seat(drawn(2) ? &nobody : (fodderpause_seat *) (void *) &collector), FODDERPAUSE_NO_PARTY);
@@ -429,8 +479,8 @@ static void call(void)
     case 10: case 11: case 12: case 13: set(); break;
     case 14: case 15: case 16: compare_and_swap(); break;
     case 17: case 18: case 19: case 20: fill_register(); break;
-    case 21: look_at_registers(); break;
-    case 22: count_left(); break;
+    case 21: drawn(2) ? look_at_registers() : look_at_value(); break;
+    case 22: drawn(2) ? count_left() : (void) read_stats(); break;
     case 23: case 24: case 25: poll(); break;
     case 26: look_or_answer(); break;
     case 27: look_behind(); break;
@@ -442,6 +492,7 @@ static void call(void)
         case 1: case 2: fold_in(); break;
         case 3: case 4: refuse(); break;
         case 5: allocate_with_turns(drawn(2)); break;
+        case 6: collect_and_read(); break;
         default: get();
         }
     }

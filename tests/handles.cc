@@ -23,6 +23,10 @@ int main()
     if (moved.cas(1, 0, 4, 2).swapped != 1 || moved.copy(5, 2).code != FODDERPAUSE_DONE || moved.nil(2).code != FODDERPAUSE_DONE || moved.poll().phase != collector.phase().phase) {
         return 5;
     }
+    // The board has a fragment of the first group, and the seat has taken the other fifteen: three for its objects, and twelve that it keeps.
+    if (moved.value(5).kind != FODDERPAUSE_OBJECT || moved.value(2).kind != FODDERPAUSE_NIL || collector.stats().fragments != 16 || collector.stats().spine_words != 1) {
+        return 11;
+    }
     if (collector.turn().code != FODDERPAUSE_DONE || collector.close() != FODDERPAUSE_NOT_FOLDED) {
         return 6;
     }

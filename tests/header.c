@@ -54,6 +54,18 @@ PLACED(fodderpause_turned, phase, 24);
 PLACED(fodderpause_turned, cycle, 32);
 PLACED(fodderpause_turned, kept, 40);
 SIZED(fodderpause_turned, 48);
+PLACED(fodderpause_value_told, code, 0);
+PLACED(fodderpause_value_told, kind, 4);
+PLACED(fodderpause_value_told, number, 8);
+PLACED(fodderpause_value_told, seat, 12);
+SIZED(fodderpause_value_told, 16);
+PLACED(fodderpause_stats_told, code, 0);
+PLACED(fodderpause_stats_told, fragments, 4);
+PLACED(fodderpause_stats_told, spine_words, 8);
+PLACED(fodderpause_stats_told, phase, 16);
+PLACED(fodderpause_stats_told, cycles, 24);
+PLACED(fodderpause_stats_told, kept, 32);
+SIZED(fodderpause_stats_told, 40);
 SIZED(bool, 1);
 
 static int failed;
@@ -83,6 +95,7 @@ static void call_nobody(fodderpause_seat *seat)
     nobody("copy", fodderpause_copy(seat, 1, 0).code);
     nobody("same", fodderpause_same(seat, 0, 0).code);
     nobody("length", fodderpause_length(seat, 0).code);
+    nobody("value", fodderpause_value(seat, 0).code);
     nobody("poll", fodderpause_poll(seat).code);
     nobody("leave", fodderpause_leave(seat).code);
     nobody("names_left", fodderpause_names_left(seat).code);
@@ -105,6 +118,7 @@ int main(void)
     uint64_t turns_made = 1;
     nobody("turns", fodderpause_turns(&collector, 1, &turns_made).code);
     nobody("phase", fodderpause_phase(&collector).code);
+    nobody("stats", fodderpause_stats(&collector).code);
     nobody("fold_in", fodderpause_fold_in(&collector, &seat));
     nobody("close", fodderpause_close(&collector));
     nobody("drop_collector", fodderpause_drop_collector(&collector));

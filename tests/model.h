@@ -21,6 +21,9 @@ typedef struct object {
     cell *cells;
 } object;
 
+/* How many fragments a seat keeps at most for its next objects. */
+enum { RESERVE = 15 };
+
 /* A seat: what its collect found since its last reply, and the phase that it surely loaded last. */
 typedef struct model_seat {
     cell registers[REGISTERS];
@@ -30,9 +33,11 @@ typedef struct model_seat {
     uint64_t answered, first, seen, behind_seat, behind_answered, behind_phase;
 } model_seat;
 
+/* Of the heap it is known what the last ended cycle kept, or not: where calls of the header ended cycles they don't tell it. */
 static struct {
     uint32_t groups, spine, count, folded;
-    uint64_t phase;
+    uint64_t phase, kept;
+    bool knows_kept;
     object board;
     model_seat seats[SEATS];
 } model;
@@ -65,7 +70,8 @@ static void open_model(uint32_t groups, uint32_t spine, uint32_t board, uint32_t
     model.spine = spine;
     model.count = count;
     model.folded = 0;
-    model.phase = 0;
+    model.phase = model.kept = 0;
+    model.knows_kept = true;
     model.board = with_cells(board, false);
     for (uint32_t number = 0; number < count; number++) {
         model_seat *seat = &model.seats[number];
@@ -139,7 +145,7 @@ static void reach(object *from)
     }
 }
 
-/* Finds what the registers of all seats and the board lead to. */
+/* Finds what the registers of all seats lead to. The board is in one of each seat that hasn't left; where all have, a cycle frees it too. */
 static void reach_all(void)
 {
     reached_fragments = reached_spine = 0;
@@ -149,12 +155,21 @@ static void reach_all(void)
             model.seats[number].objects[count].is_reached = false;
         }
     }
-    reach(&model.board);
     for (uint32_t number = 0; number < model.count; number++) {
         for (int r = 0; r < REGISTERS; r++) {
             reach(named(&model.seats[number].registers[r]));
         }
     }
+}
+
+/* How many fragments the seats may keep, each that is there. */
+static uint32_t most_kept(void)
+{
+    uint32_t most = 0;
+    for (uint32_t number = 0; number < model.count; number++) {
+        most += model.seats[number].left ? 0 : RESERVE;
+    }
+    return most;
 }
 
 #endif

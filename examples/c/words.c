@@ -35,7 +35,7 @@ static void add(const char *word)
 /* Writes the words of the tree in register NODE. */
 static void print_tree(void)
 {
-    if (fodderpause_length(&seat, NODE).code == FODDERPAUSE_DONE) {
+    if (fodderpause_value(&seat, NODE).kind == FODDERPAUSE_OBJECT) {
         done(fodderpause_push(&roots, NODE));
         get(&seat, NODE, NODE, LESS);
         print_tree();
@@ -55,7 +55,7 @@ int main(void)
     for (char *word = strtok(text, " "); word != NULL; word = strtok(NULL, " ")) {
         add(word);
     }
-    for (; fodderpause_length(&seat, LIST).code == FODDERPAUSE_DONE; get(&seat, LIST, LIST, REST)) {
+    for (; fodderpause_value(&seat, LIST).kind == FODDERPAUSE_OBJECT; get(&seat, LIST, LIST, REST)) {
         printf("%s\n", text_of(LIST));
     }
     get(&seat, NODE, BOARD, 0);

@@ -10,4 +10,6 @@ pub mod Parties
 pub mod Phases
 pub mod Pointers
 pub mod Replies
+pub mod Stats
 pub mod Turning
+pub mod Values

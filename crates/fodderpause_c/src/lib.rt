@@ -19,5 +19,7 @@ mod pointer;
 mod refusal;
 mod replies;
 mod seat_work;
+mod stats;
 mod turning;
+mod values;
 mod version;

@@ -19,20 +19,22 @@ use Rattle.heap_table.specs.Folded.{IsFolded, AllFolded}
 use Rattle.heap_table.specs.Handing.{with_folded, folding_view}
 use Rattle.heap_table.specs.Holds.{Holds}
 use Rattle.heap_table.specs.Known.{CollectorKnown}
+use Rattle.heap_table.specs.LastKept.{last_kept, kept_after_turn}
 use Rattle.heap_table.specs.ManyTurns.{KeepsAhead}
 use Rattle.heap_table.specs.Quiet.{is_quiet}
-use Rattle.heap_table.specs.Told.{next_collector, next_known, TurnHasWord, TellsStored}
+use Rattle.heap_table.specs.Told.{next_collector, next_known, TurnHasWord, ToldAtTurn, TellsStored}
 use Rattle.heap_table.specs.TokenOf.{IsTokenOf}
 use Rattle.heap_table.specs.Views.{seat_view, collector_view, known_by}
 use Rattle.heap_table.specs.declared.view.View.{View}
 use Rattle.heap_table.specs.declared.view.View.TheVariants.{Spent}
 use Rattle.heap_table.proofs.Folding.{folding_is_allowed}
+use Rattle.heap_table.proofs.KeptEnds.{last_kept_after_turn}
 use Rattle.heap_table.proofs.Quiet.{quiet_collector_ignores_word}
 use Rattle.heap_table.proofs.Turns.{next_turn_may}
 use Rattle.heap_table.proofs.TurnsAhead.{TurnTells, ahead_has_its_word, ahead_is_allowed, ahead_tells_stored}
 
-module _ (shared : TableId) (key : Heap) (mine : TableId) (me : Me (Unit {0}) View) (heap : Heap) (collector : Collector) (seat_slots : List (Option SeatWithRoom)) (folded : ℕ)
-    (keeps : KeepsCollector shared key mine me heap collector seat_slots folded) where
+module _ (shared : TableId) (key : Heap) (mine : TableId) (me : Me (Unit {0}) View) (heap : Heap) (collector : Collector) (seat_slots : List (Option SeatWithRoom)) (folded kept : ℕ)
+    (keeps : KeepsCollector shared key mine me heap collector seat_slots folded kept) where
   abbrev known : CollectorKnown
   known = known_by me.0
 
@@ -61,9 +63,9 @@ module _ (shared : TableId) (key : Heap) (mine : TableId) (me : Me (Unit {0}) Vi
     turn_tells_stored = ahead_tells_stored shared key mine me heap keeps_as_ahead step due
 
   -- what the holder keeps after the turn
-  pub keeps_collector_after_turn : (mine' : TableId) (me' : Me (Unit {0}) View) (next : Collector) (found : ℕ) → mine' ≡ mine → TurnTells heap me found me' → next ≡ next_collector heap collector found
-      → KeepsCollector shared key mine' me' heap next seat_slots folded
-  keeps_collector_after_turn mine' me' next found same tells is =
+  pub keeps_collector_after_turn : (mine' : TableId) (me' : Me (Unit {0}) View) (next : Collector) (found kept' : ℕ) → mine' ≡ mine → TurnTells heap me found me' → next ≡ next_collector heap collector found
+      → kept' ≡ kept_after_turn kept ((next_turn heap collector).answer found) → KeepsCollector shared key mine' me' heap next seat_slots folded kept'
+  keeps_collector_after_turn mine' me' next found kept' same tells is kept_now =
       let known_is : known_by me'.0 ≡ next_known heap known found = ap (λ (m : Me (Unit {0}) View). known_by m.0) tells.0 in
       let collector_is : (known_by me'.0).collector ≡ next = ap (λ (k : CollectorKnown). k.collector) known_is ∙ ap (λ (c : Collector). next_collector heap c found) keeps.collector_is ∙ sym is in
       record {
@@ -76,6 +78,8 @@ module _ (shared : TableId) (key : Heap) (mine : TableId) (me : Me (Unit {0}) Vi
         seats_are = keeps.seats_are ∙ ap (λ (k : CollectorKnown). k.seats) (sym known_is);
         a_slot_each = keeps.a_slot_each;
         folded_is = ap (λ (k : CollectorKnown). k.folded) known_is ∙ keeps.folded_is;
+        kept_is = ap (λ (c : Collector). last_kept c.log) is ∙ last_kept_after_turn heap collector found (subst (λ (c : Collector). ToldAtTurn heap c found) keeps.collector_is tells.1)
+            ∙ ap (λ (n : ℕ). kept_after_turn n ((next_turn heap collector).answer found)) keeps.kept_is ∙ sym kept_now;
         unread = ap (λ (k : CollectorKnown). k.closed) known_is ∙ keeps.unread;
         fits = subst (CollectorFits heap) (ap (λ (k : CollectorKnown). k.collector) (sym known_is) ∙ collector_is) tells.1.fits;
         has_word = subst (TurnHasWord heap) (ap (λ (k : CollectorKnown). k.collector) (sym known_is) ∙ collector_is) tells.1.has_word;
@@ -93,7 +97,7 @@ module _ (shared : TableId) (key : Heap) (mine : TableId) (me : Me (Unit {0}) Vi
   -- what the holder keeps after that
   pub keeps_collector_after_fold : (mine' : TableId) (me' : Me (Unit {0}) View) (seat_slots' : List (Option SeatWithRoom)) (now number : ℕ) (seat : Seat) (party : SeatWithRoom) (view : View)
       → mine' ≡ mine → me' ≡ (folding_view me.0 view, me.1) → view ≡ seat_view number seat → seat_slots' ≡ set seat_slots number (Some party) → party.seat ≡ seat → now ≡ collector.phase
-      → KeepsCollector shared key mine' me' heap collector seat_slots' now
+      → KeepsCollector shared key mine' me' heap collector seat_slots' now kept
   keeps_collector_after_fold mine' me' seat_slots' now number seat party view same me_is view_is seat_slots_are party_is now_is =
       let known_is : known_by me'.0 ≡ with_folded known number seat = ap (λ (m : Me (Unit {0}) View). known_by m.0) me_is ∙ ap (λ (v : View). known_by (folding_view me.0 v)) view_is in
       record {
@@ -108,6 +112,7 @@ module _ (shared : TableId) (key : Heap) (mine : TableId) (me : Me (Unit {0}) Vi
             ∙ ap (λ (s : Seat). set known.seats number (Some s)) party_is ∙ ap (λ (k : CollectorKnown). k.seats) (sym known_is);
         a_slot_each = ap length seat_slots_are ∙ length-set seat_slots number (Some party) ∙ keeps.a_slot_each;
         folded_is = ap (λ (k : CollectorKnown). k.folded) known_is ∙ ap (λ (c : Collector). c.phase) keeps.collector_is ∙ sym now_is;
+        kept_is = keeps.kept_is;
         unread = ap (λ (k : CollectorKnown). k.closed) known_is ∙ keeps.unread;
         fits = keeps.fits;
         has_word = keeps.has_word;

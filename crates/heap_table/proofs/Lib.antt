@@ -14,6 +14,9 @@ pub mod TurnsAhead
 pub mod CollectorHolders
 pub mod ManyTurns
 pub mod Histories
+pub mod KeptEnds
+pub mod Observed
+pub mod Counting
 pub mod MadeSteps
 pub mod Since
 pub mod OneGo

@@ -19,6 +19,7 @@ use Rattle.core_machine.specs.declared.step.Step.{Step}
 use Rattle.core_machine.specs.machine.Value.{SeatWithRoom}
 use Rattle.heap_table.specs.CollectorHeld.{CollectorHeld, KeepsCollector}
 use Rattle.heap_table.specs.Known.{CollectorKnown}
+use Rattle.heap_table.specs.LastKept.{last_kept}
 use Rattle.heap_table.specs.ManyTurns.{collector_in, KeepsAhead, MakesTurn, Works, LeadsTo, WorksOn}
 use Rattle.heap_table.specs.Told.{next_collector, next_known, ToldAtTurn, TurnHasWord}
 use Rattle.heap_table.specs.Views.{known_by}
@@ -126,10 +127,10 @@ holder_works heap table table' known known' turns turns' spare spare' n within t
     (subst (λ m. MakesOnward WorksOn n held (record { table = table; heap = heap; known = known'; turns = min (turns + n) (2 ^ 64 - 1); spare = m })) (sym spare_is) from_begin))
 
 -- what the holder keeps after them
-pub keeps_collector_after_works : (shared : TableId) (key : Heap) (mine mine' : TableId) (me me' : Me (Unit {0}) View) (heap : Heap) (kept next : Collector) (stage : Stage) (seat_slots : List (Option SeatWithRoom)) (folded n : ℕ)
-    → KeepsCollector shared key mine me heap kept seat_slots folded → KeepsAhead shared key mine' me' heap → MakesOnward (Works heap) n (known_by me.0) (known_by me'.0)
-    → collector_in me' ≡ record (collector_in me) { stage = stage } → next ≡ record kept { stage = stage } → KeepsCollector shared key mine' me' heap next seat_slots folded
-keeps_collector_after_works shared key mine mine' me me' heap kept next stage seat_slots folded n keeps ahead made led is =
+pub keeps_collector_after_works : (shared : TableId) (key : Heap) (mine mine' : TableId) (me me' : Me (Unit {0}) View) (heap : Heap) (kept next : Collector) (stage : Stage) (seat_slots : List (Option SeatWithRoom)) (folded told n : ℕ)
+    → KeepsCollector shared key mine me heap kept seat_slots folded told → KeepsAhead shared key mine' me' heap → MakesOnward (Works heap) n (known_by me.0) (known_by me'.0)
+    → collector_in me' ≡ record (collector_in me) { stage = stage } → next ≡ record kept { stage = stage } → KeepsCollector shared key mine' me' heap next seat_slots folded told
+keeps_collector_after_works shared key mine mine' me me' heap kept next stage seat_slots folded told n keeps ahead made led is =
     let know = works_know heap n (known_by me.0) (known_by me'.0) made in
     let collector_is : collector_in me' ≡ next = led ∙ ap (λ (c : Collector). record c { stage = stage }) keeps.collector_is ∙ sym is in
     record {
@@ -138,6 +139,7 @@ keeps_collector_after_works shared key mine mine' me me' heap kept next stage se
       seats_are = keeps.seats_are ∙ sym (ap (λ (k : CollectorKnown). k.seats) know);
       a_slot_each = keeps.a_slot_each;
       folded_is = ap (λ (k : CollectorKnown). k.folded) know ∙ keeps.folded_is;
+      kept_is = ap (λ (c : Collector). last_kept c.log) is ∙ keeps.kept_is;
       unread = ahead.unread;
       fits = subst (CollectorFits heap) collector_is ahead.fits;
       has_word = subst (TurnHasWord heap) collector_is ahead.has_word;

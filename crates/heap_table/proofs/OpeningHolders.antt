@@ -81,7 +81,7 @@ module _ (heap : Heap) (words : List ℕ) (limits : IsHeap heap) (long : length 
 
   -- what the collector's holder keeps then
   pub keeps_collector_at_opening : (shared mine : TableId) (key : Heap) (me : Me (Unit {0}) View) (seat_slots : List (Option SeatWithRoom)) → mine ≡ shared → shared.words ≡ length words → shared.slots ≡ 0 → key ≡ heap
-      → me ≡ (opening_view heap, []) → seat_slots ≡ replicate heap.seats None → KeepsCollector shared key mine me heap opening_collector seat_slots 0
+      → me ≡ (opening_view heap, []) → seat_slots ≡ replicate heap.seats None → KeepsCollector shared key mine me heap opening_collector seat_slots 0 0
   keeps_collector_at_opening shared mine key me seat_slots same words_are none_ key_is me_is seat_slots_are =
       let stands = opening_stands heap (opening_state heap words) limits is_opening in
       record {
@@ -94,6 +94,7 @@ module _ (heap : Heap) (words : List ℕ) (limits : IsHeap heap) (long : length 
         seats_are = ap seats_in seat_slots_are ∙ still_empty heap.seats ∙ ap (λ (m : Me (Unit {0}) View). (known_by m.0).seats) (sym me_is);
         a_slot_each = ap length seat_slots_are ∙ length-replicate heap.seats None;
         folded_is = ap (λ (m : Me (Unit {0}) View). (known_by m.0).folded) me_is;
+        kept_is = refl;
         unread = ap (λ (m : Me (Unit {0}) View). (known_by m.0).closed) me_is;
         fits = (opening_is_machine heap (opening_state heap words) limits is_opening).collector_fit;
         has_word = next_turn_has_word heap (opening_state heap words) stands.book stands.stands;

@@ -10,6 +10,7 @@ use Rattle.core_machine.specs.declared.step.Step.{Step}
 use Rattle.core_machine.specs.machine.Value.{SeatWithRoom}
 use Rattle.core_machine.specs.seat.Seat.{Seat}
 use Rattle.heap_table.specs.Known.{CollectorKnown}
+use Rattle.heap_table.specs.LastKept.{last_kept}
 use Rattle.heap_table.specs.Told.{next_known, TurnHasWord}
 use Rattle.heap_table.specs.TokenOf.{IsTokenOf}
 use Rattle.heap_table.specs.Views.{collector_view, known_by}
@@ -33,13 +34,14 @@ pub record KeepsToken (shared : TableId) (key : Heap) (mine : TableId) (me : Me 
   pub limits : IsHeap heap
   pub knows : me ≡ (collector_view (known_by me.0), [])
 
--- the holder has such a token, which knows its collector and the seats in their slots; closing has read nothing yet
-pub record KeepsCollector (shared : TableId) (key : Heap) (mine : TableId) (me : Me (Unit {0}) View) (heap : Heap) (collector : Collector) (seat_slots : List (Option SeatWithRoom)) (folded : ℕ) : Type 0 where
+-- the holder has such a token, which knows its collector and the seats in their slots; it keeps what the last ended cycle kept, and closing has read nothing yet
+pub record KeepsCollector (shared : TableId) (key : Heap) (mine : TableId) (me : Me (Unit {0}) View) (heap : Heap) (collector : Collector) (seat_slots : List (Option SeatWithRoom)) (folded kept : ℕ) : Type 0 where
   pub token : KeepsToken shared key mine me heap
   pub collector_is : (known_by me.0).collector ≡ collector
   pub seats_are : seats_in seat_slots ≡ (known_by me.0).seats
   pub a_slot_each : length seat_slots ≡ heap.seats
   pub folded_is : (known_by me.0).folded ≡ folded
+  pub kept_is : last_kept collector.log ≡ kept
   pub unread : (known_by me.0).closed ≡ []
   pub fits : CollectorFits heap collector
   pub has_word : TurnHasWord heap collector

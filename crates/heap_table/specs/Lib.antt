@@ -10,6 +10,8 @@ pub mod TokenOf
 pub mod SeatHeld
 pub mod Ahead
 pub mod CollectorHeld
+pub mod InUse
+pub mod LastKept
 pub mod ManyTurns
 pub mod Opened
 pub mod Closed

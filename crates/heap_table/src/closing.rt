@@ -113,6 +113,7 @@ impl CollectorHolder {
             party,
             seat_slots,
             folded,
+            ..
         } = self;
         read_all(&table.shared, &mut token, &heap, &mut words, count);
         move_logs(alloc, seat_slots, &mut logs);

@@ -8,6 +8,7 @@ ghost use Rattle.heap_table.specs.Opened.{EachOpens};
 ghost use Rattle.heap_table.specs.Quiet.{is_quiet};
 ghost use Rattle.heap_table.specs.Told.{ToldAtTurn};
 
+use crate::collector::counting::kept_after;
 use crate::collector::slots::empty_slots;
 use crate::rule::{SharedTable, Token};
 use crate::shared_steps::SharedSteps;
@@ -20,12 +21,15 @@ use std::marker::{Brand, Model};
 use std::sync::Arc;
 
 mod copying;
+mod counting;
 mod handshake;
 mod marking;
 mod slots;
 mod strides;
 mod sweeping;
 mod turns;
+
+pub use counting::InUse;
 
 /// The collector of a table: the right to make its turns, with what is kept of it and its log, and a slot for each seat that it folds in.
 #[derive(Drop)]
@@ -36,6 +40,7 @@ pub struct CollectorHolder<L: Entries = Log, C: CountsEntries = Log> {
     pub(crate) party: CollectorParty<C>,
     pub(crate) seat_slots: Vec<Option<SeatParty<L>>>,
     pub(crate) folded: u64,
+    pub(crate) kept: u64,
 }
 
 impl<L: Entries, C: CountsEntries> Model for CollectorHolder<L, C> {
@@ -53,7 +58,7 @@ impl<L: Entries, C: CountsEntries> Model for CollectorHolder<L, C> {
       spare = holder.party.spare;
     } };
 
-    ghost invariant = { λ holder. KeepsCollector (arc_value holder.table).shared.table_id (arc_value holder.table).shared.key holder.token.table_id holder.token.me holder.heap holder.party.collector holder.seat_slots.items holder.folded };
+    ghost invariant = { λ holder. KeepsCollector (arc_value holder.table).shared.table_id (arc_value holder.table).shared.key holder.token.table_id holder.token.me holder.heap holder.party.collector holder.seat_slots.items holder.folded holder.kept };
 }
 
 impl<L: Entries, C: CountsEntries> CollectorHolder<L, C> {
@@ -76,6 +81,7 @@ impl<L: Entries, C: CountsEntries> CollectorHolder<L, C> {
             party: CollectorParty::opening(alloc),
             seat_slots,
             folded: 0,
+            kept: 0,
         })
     }
 
@@ -156,6 +162,7 @@ impl<L: Entries, C: CountsEntries> CollectorHolder<L, C> {
             &self.party,
         );
         let answer = self.party.learn(&self.heap, found);
+        self.kept = kept_after(self.kept, &answer);
         (found, answer)
     }
 

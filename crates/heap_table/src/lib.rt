@@ -20,7 +20,7 @@ mod way;
 pub use closed::Closed;
 pub use closed_words::ClosedWords;
 pub use closing::CloseFault;
-pub use collector::CollectorHolder;
+pub use collector::{CollectorHolder, InUse};
 pub use holder::Holder;
 pub use laws::step_laws;
 pub use opening::HeapTable;

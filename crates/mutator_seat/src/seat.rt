@@ -1,8 +1,10 @@
 ghost use Rattle.std.specs.Prelude.{◌≡◌};
-ghost use Rattle.mutator_seat.specs.Resting.{IsBetweenCalls};
+ghost use Rattle.heap_model.specs.Command.{IsRegister};
+ghost use Rattle.heap_model.specs.calls.SeatState.{held_value};
+ghost use Rattle.mutator_seat.specs.Resting.{IsBetweenCalls, seat_state};
 
 use core_machine::{Log, ShowsLast};
-use heap_model::Entry;
+use heap_model::{Entry, Value};
 use heap_table::Holder;
 use std::marker::Model;
 
@@ -50,6 +52,14 @@ impl<L: ShowsLast> Seat<L> {
         ensures { result ≡ self.now.seat.looks.waits }
     {
         self.holder.party().waits()
+    }
+
+    /// What the register holds, by the seat's own entries. No step is made.
+    pub fn value(&self, r: u8) -> Value
+        requires { IsRegister r }
+        ensures { result ≡ held_value (seat_state self.now) r }
+    {
+        self.holder.party().register(r).value()
     }
 
     /// The holder alone.

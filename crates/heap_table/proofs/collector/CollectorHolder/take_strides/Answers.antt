@@ -9,7 +9,7 @@ invariant_of-self g c =
     let h = c.self.inside in
     let token = c.go_on-made.new.token in
     let ahead = subst (λ t. KeepsAhead t.shared.table_id t.shared.key token.table_id token.me h.heap) c.deref.ensures c.go_on-made.ensures.keeps in
-    keeps_collector_after_works _ _ _ _ h.token.me token.me h.heap h.party.collector _ c.go_on-made.result.1 _ _ _ c.self.invariant ahead c.go_on-made.ensures.works c.go_on-made.ensures.stage c.end_turns.ensures.collector
+    keeps_collector_after_works _ _ _ _ h.token.me token.me h.heap h.party.collector _ c.go_on-made.result.1 _ _ _ _ c.self.invariant ahead c.go_on-made.ensures.works c.go_on-made.ensures.stage c.end_turns.ensures.collector
 
 pub returns-clause-works : goal.returns-clause-works
 returns-clause-works g c =
