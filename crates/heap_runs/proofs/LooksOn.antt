@@ -15,9 +15,8 @@ use Rattle.core_machine.specs.declared.step.Step.{Step}
 use Rattle.heap_model.specs.declared.behind.Behind.{Behind}
 use Rattle.core_machine.specs.declared.seat.looks.Looks.{Looks}
 use Rattle.core_machine.specs.seat.Looks.{found_behind, seen_phase}
-use Rattle.heap_table.specs.Made.{FoundIn}
 use Rattle.heap_table.specs.SeatHeld.{SeatHeld}
-use Rattle.mutator_seat.specs.InnerCalls.{MakesInner}
+use Rattle.mutator_seat.specs.InnerCalls.{FoundNear, MakesInner}
 use Rattle.mutator_seat.specs.Resting.{seat_state, MakesRoom}
 use Rattle.heap_runs.specs.CollectCall.{IsPresent, MakesInners, IsQuiet, IsAnswerOf, IsSameSeat, LooksAround}
 
@@ -126,9 +125,9 @@ around_inner old new inner quiet makes = record {
   made = makes_one_inner old old new inner refl makes;
   same = same_seat_after_inner old new inner makes;
   answers = makes.told;
-  own = answers_alone (FoundIn makes.made) old.number (kept_of old.seat) (kept_of new.seat) makes.told inner quiet makes.comes;
+  own = answers_alone (FoundNear old makes.made) old.number (kept_of old.seat) (kept_of new.seat) makes.told inner quiet makes.comes;
   mine = makes.mine;
-  waits = finds_more (FoundIn makes.made) old.number (kept_of old.seat) (kept_of new.seat) makes.told inner makes.comes;
+  waits = finds_more (FoundNear old makes.made) old.number (kept_of old.seat) (kept_of new.seat) makes.told inner makes.comes;
 }
 
 -- and by one after the other

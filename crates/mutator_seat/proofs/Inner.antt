@@ -1,6 +1,7 @@
 -- An inner call of a seat's collect, by the steps that it has made.
-use Rattle.std.proofs.Common.{◌≡◌, ℕ, ◌+◌, ◌<◌, ◌≤◌, List, [], ◌∷◌, ◌++◌, length, Option, Some, refl, sym, ap, subst, ◌∙◌, inl, inr, append-nil, append_assoc, arith}
+use Rattle.std.proofs.Common.{◌≡◌, ℕ, ◌+◌, ◌<◌, ◌≤◌, List, [], ◌∷◌, ◌++◌, length, Option, Some, None, refl, sym, ap, subst, ◌∙◌, inl, inr, append-nil, append_assoc, arith}
 use Rattle.std.specs.List.{All}
+use Rattle.std.specs.Prelude.{IfSome, option_map, nat_lt, ◌^◌}
 use Rattle.std.proofs.lemmas.List.Elements.{All-append, All-nil, All-push, Contains-append_right}
 use Rattle.std.proofs.lemmas.List.Sums.{fold-append}
 use Rattle.heap_model.specs.Heap.{IsHeap}
@@ -13,28 +14,58 @@ use Rattle.heap_model.specs.calls.SeatState.{own_graph}
 use Rattle.heap_model.specs.declared.heap.Heap.{Heap}
 use Rattle.heap_model.specs.graph.Graph.{Graph, opening}
 use Rattle.heap_model.specs.graph.Growth.{after_entry, graph_after}
-use Rattle.core_machine.specs.calls.InnerStage.{IsInnerOver, OwnInnerStage}
-use Rattle.core_machine.specs.calls.Kept.{Kept, kept_of}
+use Rattle.core_machine.specs.calls.InnerStage.{IsInnerOver, InnerStageAt, OwnInnerStage}
+use Rattle.core_machine.specs.calls.Kept.{Kept, kept_of, IsUntold}
 use Rattle.core_machine.specs.calls.Owes.{owes}
-use Rattle.core_machine.specs.declared.point.Point.TheVariants.{Idle}
+use Rattle.core_machine.specs.declared.point.Collecting.TheVariants.{Looking, Asking, Comparing, Noting}
+use Rattle.core_machine.specs.declared.point.Point.{Point}
+use Rattle.core_machine.specs.declared.point.Point.TheVariants.{Idle, Making, Local, Access, Polling, Collecting, Leaving}
+use Rattle.core_machine.specs.declared.point.Polling.TheVariants as polling
 use Rattle.core_machine.specs.declared.step.Step.{Step}
 use Rattle.core_machine.specs.machine.Machine.{MayBeginInner, after_inner_begin}
-use Rattle.core_machine.specs.Moves.{Move, due_step, seat_after, seat_after_due}
+use Rattle.core_machine.specs.Moves.{Move, move_at, next_move, due_step, seat_after, seat_after_due}
 use Rattle.core_machine.specs.seat.Fits.{Fits}
 use Rattle.core_machine.specs.seat.Looks.{MayMake}
 use Rattle.core_machine.specs.seat.Seat.{Seat}
 use Rattle.core_machine.proofs.moves.{due_step_is_moves}
 use Rattle.core_machine.proofs.moves.Collect.{InnerStands, inner_stands}
 use Rattle.core_machine.proofs.own_stages.Inner.{own_inner_leads, own_inner_begins, idle_inner_is_over}
+use Rattle.core_rule.specs.told.Found.{TellsWord, IsAnsweredOrNext}
 use Rattle.core_rule.specs.told.Told.{IsAsTold}
 use Rattle.heap_table.specs.Begun.{next_seat}
 use Rattle.heap_table.specs.Made.{Made, FoundIn, LeadsTo, MakesSteps, IsSound}
 use Rattle.heap_table.specs.SeatHeld.{SeatHeld}
-use Rattle.mutator_seat.specs.InnerCalls.{MayCollect, begun_inner, MakesInner}
+use Rattle.mutator_seat.specs.InnerCalls.{MayCollect, begun_inner, IsNearPhase, FoundNear, MakesInner}
 use Rattle.mutator_seat.specs.Resting.{seat_state, Rests}
 
--- an inner call that stands so stands after all these steps as it is to
+-- an inner call that stands so stands after all these steps as it is to, where so much is told of each of them and of the phases that they found
 module _ (heap : Heap) (number : ℕ) (inner : Inner) (old : Seat) (tells : Step → ℕ → Type 0) (limits : IsHeap heap) (few : number < 16) where
+  -- where a phase is loaded the seat's last answer is as it was
+  abbrev GoesNear : Seat → ℕ → Move → Type 0
+  GoesNear seat found move = TellsWord heap number seat move.step found → IsNearPhase old.answered move.step found
+
+  near_untold : (seat : Seat) (told : List Entry) (found : ℕ) → IsUntold (kept_of old) (kept_of seat) told → IsAnsweredOrNext seat.answered found → IsAnsweredOrNext old.answered found
+  near_untold seat told found untold near = subst (λ (n : ℕ). IsAnsweredOrNext n found) (ap (λ (k : Kept). k.answered) untold.kept_stays) near
+
+  near_at : (seat : Seat) (told : List Entry) (found : ℕ) (point : Point) → InnerStageAt tells number inner (kept_of old) seat told point → IfSome (move_at heap number seat point) (GoesNear seat found)
+  near_at seat told found Idle stage = tt
+  near_at seat told found (Collecting Looking) stage = near_untold seat told found stage.1
+  near_at seat told found (Collecting (Asking other)) stage = near_untold seat told found stage.1
+  near_at seat told found (Collecting (Comparing other phase)) stage = λ t. tt
+  near_at seat told found (Collecting (Noting reply)) stage = near_untold seat told found stage.1
+  near_at seat told found (Polling polling.Asking) stage = near_untold seat told found stage.1
+  near_at seat told found (Polling polling.Shading) stage = λ t. tt
+  near_at seat told found (Polling polling.Answering) stage = λ t. tt
+  near_at seat told found (Making point) stage = absurd stage
+  near_at seat told found Local stage = absurd stage
+  near_at seat told found (Access point) stage = absurd stage
+  near_at seat told found (Leaving point) stage = absurd stage
+
+  near_due : (seat : Seat) (found : ℕ) (move : Option Move) (step : Step) → option_map (λ (m : Move). m.step) move ≡ Some step → IfSome move (GoesNear seat found)
+      → IfSome (option_map (λ (m : Move). m.step) move) (λ (s : Step). TellsWord heap number seat s found) → IsNearPhase old.answered step found
+  near_due seat found None step due goes told = cc
+  near_due seat found (Some move) step due goes told = let same : move.step ≡ step = cc in subst (λ (s : Step). IsNearPhase old.answered s found) same (goes told)
+
   inner_on : (seat : Seat) (told : List Entry) (step : Step) (found : ℕ) → Fits heap seat → due_step heap number seat ≡ Some step → tells step found → OwnInnerStage tells number inner old seat told
       → (more : List Entry) × OwnInnerStage tells number inner old (next_seat heap number seat found) (told ++ more)
   inner_on seat told step found fits due tell stage =
@@ -45,13 +76,16 @@ module _ (heap : Heap) (number : ℕ) (inner : Inner) (old : Seat) (tells : Step
             (own_inner_leads tells heap number inner old seat told move.0 found limits few fits move.1 (subst (λ (s : Step). tells s found) (sym move.2) tell) stage),
       )
 
-  inner_along : (made : List Made) (seat new : Seat) (told : List Entry) → Fits heap seat → LeadsTo heap number seat made new → ((step : Step) (word : ℕ) → FoundIn made step word → tells step word)
+  inner_along : (made : List Made) (seat new : Seat) (told : List Entry) → Fits heap seat → LeadsTo heap number seat made new
+      → ((step : Step) (word : ℕ) → FoundIn made step word → IsNearPhase old.answered step word → tells step word)
       → OwnInnerStage tells number inner old seat told → (more : List Entry) × OwnInnerStage tells number inner old new (told ++ more)
   inner_along [] seat new told fits leads tell stage =
       ([], subst (λ (t : List Entry). OwnInnerStage tells number inner old new t) (sym (append-nil told)) (subst (λ (s : Seat). OwnInnerStage tells number inner old s told) (sym leads) stage))
   inner_along (m ∷ made) seat new told fits leads tell stage =
-      let on = inner_on seat told m.step m.found fits leads.0 (tell m.step m.found (0, omega arith, refl)) stage in
-      let rest = inner_along made (next_seat heap number seat m.found) new (told ++ on.0) leads.1.fits leads.2 (λ step word there. tell step word (Contains-append_right (m ∷ []) made (record { step = step; found = word }) there)) on.1 in
+      let near = near_due seat m.found (next_move heap number seat) m.step leads.0 (near_at seat told m.found seat.point stage.stage) leads.1.tells.word in
+      let on = inner_on seat told m.step m.found fits leads.0 (tell m.step m.found (0, omega arith, refl) near) stage in
+      let rest = inner_along made (next_seat heap number seat m.found) new (told ++ on.0) leads.1.fits leads.2
+      (λ step word there. tell step word (Contains-append_right (m ∷ []) made (record { step = step; found = word }) there)) on.1 in
       (on.0 ++ rest.0, subst (λ (t : List Entry). OwnInnerStage tells number inner old new t) (append_assoc told on.0 rest.0) rest.1)
 
 -- what an inner call tells is the seat's own, and it does no set
@@ -113,12 +147,12 @@ module _ (inside value : SeatHeld) (inner : Inner) (view : inside ≡ value) (re
       makes_on : MakesSteps (begun_inner value inner) new steps.0
       makes_on = subst (λ (h : SeatHeld). MakesSteps h new steps.0) begun_is steps.1
 
-      ends : (told : List Entry) × OwnInnerStage (FoundIn steps.0) value.number inner value.seat new.seat told
-      ends = inner_along value.heap value.number inner value.seat (FoundIn steps.0) rested.sound.limits (omega (arith, rested.sound.within, rested.sound.limits.seats_fit)) steps.0 (begun_inner value inner).seat new.seat []
-          stands.fits makes_on.leads (λ step word found. found) (own_inner_begins (FoundIn steps.0) value.number value.seat inner)
+      ends : (told : List Entry) × OwnInnerStage (FoundNear value steps.0) value.number inner value.seat new.seat told
+      ends = inner_along value.heap value.number inner value.seat (FoundNear value steps.0) rested.sound.limits (omega (arith, rested.sound.within, rested.sound.limits.seats_fit)) steps.0 (begun_inner value inner).seat new.seat []
+          stands.fits makes_on.leads (λ step word found near. (found, near)) (own_inner_begins (FoundNear value steps.0) value.number value.seat inner)
 
-      over_then : IsInnerOver (FoundIn steps.0) value.number (kept_of value.seat) (kept_of new.seat) ends.0 inner
-      over_then = idle_inner_is_over (FoundIn steps.0) value.number inner value.seat new.seat ends.0 ends.1 over
+      over_then : IsInnerOver (FoundNear value steps.0) value.number (kept_of value.seat) (kept_of new.seat) ends.0 inner
+      over_then = idle_inner_is_over (FoundNear value steps.0) value.number inner value.seat new.seat ends.0 ends.1 over
 
       pub inner_call_is_made : MakesInner value new inner
       inner_call_is_made = record {
@@ -133,12 +167,12 @@ module _ (inside value : SeatHeld) (inner : Inner) (view : inside ≡ value) (re
         no_more = makes_on.no_more;
         graph_stays = ap (λ (h : Heap). graph_after (opening h) new.seat.mine) makes_on.heap_stays ∙ ap (graph_after (opening value.heap)) ends.1.mine
             ∙ fold-append after_entry (opening value.heap) value.seat.mine ends.0
-            ∙ inner_quiet (FoundIn steps.0) value.number (kept_of value.seat) (kept_of new.seat) ends.0 inner (own_graph (seat_state value)) over_then;
+            ∙ inner_quiet (FoundNear value steps.0) value.number (kept_of value.seat) (kept_of new.seat) ends.0 inner (own_graph (seat_state value)) over_then;
       }
 
       pub seat_rests_after_inner : IsSound new → (new.seat.point ≡ Idle → IsAsTold new.heap new.number new.seat) → Rests new
       seat_rests_after_inner sound told =
-          let own = inner_own (FoundIn steps.0) value.number (kept_of value.seat) (kept_of new.seat) ends.0 inner over_then in
+          let own = inner_own (FoundNear value steps.0) value.number (kept_of value.seat) (kept_of new.seat) ends.0 inner over_then in
           record {
             between = record {
               idle = over;
@@ -149,3 +183,10 @@ module _ (inside value : SeatHeld) (inner : Inner) (view : inside ≡ value) (re
             sound = sound;
             told = told over;
           }
+
+-- so the phase that a look finds is the one that was answered last, or the next, and so is the one that is answered
+pub looked_phase_is_near : (old new : SeatHeld) → MakesInner old new Look → IsAnsweredOrNext old.seat.answered new.seat.looks.seen
+looked_phase_is_near old new makes = subst (IsAnsweredOrNext old.seat.answered) (sym (ap (λ (k : Kept). k.looks.seen) makes.comes.kept_is)) makes.comes.found.1
+
+pub answered_phase_is_near : (old new : SeatHeld) → MakesInner old new Answer → IsAnsweredOrNext old.seat.answered new.seat.answered
+answered_phase_is_near old new makes = subst (IsAnsweredOrNext old.seat.answered) (sym (ap (λ (k : Kept). k.answered) makes.comes.kept_is)) makes.comes.found.1

@@ -1,5 +1,6 @@
 pub mod Answered
 pub mod Causes
+pub mod Comparing
 pub mod Entries
 pub mod Fields
 pub mod Inner

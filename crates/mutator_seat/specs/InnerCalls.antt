@@ -9,9 +9,11 @@ use Rattle.heap_model.specs.declared.entry.Entry.TheVariants.{Answers}
 use Rattle.core_machine.specs.calls.InnerStage.{IsInnerOver}
 use Rattle.core_machine.specs.calls.Kept.{kept_of}
 use Rattle.core_machine.specs.declared.point.Point.TheVariants.{Idle}
+use Rattle.core_machine.specs.declared.step.Step.{Step}
 use Rattle.core_machine.specs.declared.step.Step.TheVariants.{PollLoad, Turning}
 use Rattle.core_machine.specs.declared.step.TurningStep.TheVariants.{LookLoad}
 use Rattle.core_machine.specs.machine.Machine.{after_inner_begin}
+use Rattle.core_rule.specs.told.Found.{IsAnsweredOrNext}
 use Rattle.heap_table.specs.Made.{Made, FoundIn, MakesSteps}
 use Rattle.heap_table.specs.SeatHeld.{SeatHeld}
 use Rattle.mutator_seat.specs.Resting.{seat_state, Rests}
@@ -25,6 +27,15 @@ pub record MayCollect (seat : SeatState) : Type 0 where
 abbrev pub begun_inner : SeatHeld → Inner → SeatHeld
 begun_inner held inner = record held { seat = after_inner_begin held.seat inner }
 
+-- a phase is the one that the seat answered last, or the next
+abbrev pub IsNearPhase : ℕ → Step → ℕ → Type 0
+IsNearPhase answered PollLoad word = IsAnsweredOrNext answered word
+IsNearPhase answered step word = Unit {0}
+
+-- one of the steps found this word, and a phase that was found is near to what the seat had answered when the inner call began
+abbrev pub FoundNear : SeatHeld → List Made → Step → ℕ → Type 0
+FoundNear old made step word = FoundIn made step word × IsNearPhase old.seat.answered step word
+
 -- the seat rested, made steps one after another from the inner call's begin on, and no call is in flight; it keeps and tells what the inner call comes to by what they found, and no room was made
 pub record MakesInner (old new : SeatHeld) (inner : Inner) : Type 0 where
   pub rested : Rests old
@@ -33,7 +44,7 @@ pub record MakesInner (old new : SeatHeld) (inner : Inner) : Type 0 where
   pub over : new.seat.point ≡ Idle
   pub told : List Entry
   pub mine : new.seat.mine ≡ old.seat.mine ++ told
-  pub comes : IsInnerOver (FoundIn made) old.number (kept_of old.seat) (kept_of new.seat) told inner
+  pub comes : IsInnerOver (FoundNear old made) old.number (kept_of old.seat) (kept_of new.seat) told inner
   pub room : old.spare + length old.seat.mine ≤ new.spare + length new.seat.mine
   pub no_more : new.spare ≤ old.spare
   -- what the seat's own list tells of registers, objects and sets stays

@@ -1,10 +1,12 @@
-ghost use Rattle.std.specs.Prelude.{◌≡◌, ◌≢◌, ◌<◌, ◌++◌, ◌∷◌, ◌↔◌, [], is_some, IsTrue, if◌then◌else◌};
+ghost use Rattle.std.specs.Prelude.{◌≡◌, ◌≢◌, ◌+◌, ◌<◌, ◌≤◌, ◌++◌, ◌∷◌, ◌↔◌, [], is_some, IfSome, IsTrue, if◌then◌else◌};
+ghost use Rattle.heap_words.specs.declared.phase.TheConstants.{LEFT};
 ghost use Rattle.heap_model.specs.declared.calls.collect.Inner.TheVariants as inners;
 ghost use Rattle.heap_model.specs.declared.command.Command.TheVariants.{Collect};
 ghost use Rattle.heap_model.specs.declared.entry.Entry.TheVariants.{Said};
 ghost use Rattle.core_machine.specs.declared.step.Step.TheVariants.{PollLoad};
 ghost use Rattle.core_machine.specs.machine.Machine.{MayBeginInner};
 ghost use Rattle.core_machine.specs.seat.Looks.{MayMake, MayNote, noted_reply, counted_once_more, looked, seen_phase};
+ghost use Rattle.core_rule.specs.told.Found.{IsAnsweredOrNext};
 ghost use Rattle.heap_table.specs.Made.{FoundIn};
 ghost use Rattle.mutator_seat.specs.InnerCalls.{MayCollect, MakesInner, ByInner, ShowsBehind, newly_answered, shown_of, behind_shown};
 ghost use Rattle.mutator_seat.specs.Resting.{seat_state};
@@ -39,6 +41,7 @@ impl<L: ShowsLast> Seat<L> {
         requires { MayCollect (seat_state self.old) }
         ensures made { MakesInner self.old self.new inners.Look }
         ensures loaded { ByInner self.old self.new inners.Look (λ made. FoundIn made PollLoad result) }
+        ensures near { IsAnsweredOrNext self.old.seat.answered result }
         ensures looks { self.new.seat.looks ≡ looked result self.old.seat.looks }
         ensures untold { self.new.seat.mine ≡ self.old.seat.mine }
         ensures waits { self.new.seat.looks.waits ≡ self.old.seat.looks.waits }
@@ -52,6 +55,7 @@ impl<L: ShowsLast> Seat<L> {
         requires { MayCollect (seat_state self.old) }
         ensures made { MakesInner self.old self.new inners.Answer }
         ensures loaded { ByInner self.old self.new inners.Answer (λ made. FoundIn made PollLoad result) }
+        ensures near { IsAnsweredOrNext self.old.seat.answered result }
         ensures told { self.new.seat.mine ≡ self.old.seat.mine ++ newly_answered self.old.number self.old.seat.answered result }
         ensures answered { self.new.seat.answered ≡ result }
         ensures looks { self.new.seat.looks ≡ seen_phase result self.old.seat.looks }
@@ -67,6 +71,7 @@ impl<L: ShowsLast> Seat<L> {
         requires other { (other < self.old.heap.seats) × (other ≢ self.old.number) }
         ensures made { MakesInner self.old self.new (inners.Behind other) }
         ensures shown { ByInner self.old self.new (inners.Behind other) (λ made. ShowsBehind made other result) }
+        ensures near { IfSome result (λ shown. shown.0 + 1 ≡ shown.1) }
         ensures found { self.new.seat.looks.behind ≡ behind_shown other result }
         ensures first { self.new.seat.looks.first ≡ self.old.seat.looks.first }
         ensures untold { self.new.seat.mine ≡ self.old.seat.mine }
@@ -90,7 +95,8 @@ impl<L: ShowsLast> Seat<L> {
 
 /// What is shown of who was found behind.
 fn shown(found: Option<Behind>) -> Option<(u64, u64)>
-    ensures { result ≡ shown_of found }
+    ensures value { result ≡ shown_of found }
+    ensures fits { IfSome result (λ shown. shown.1 ≤ LEFT) }
 {
     let found = found?;
     Some((found.answered, found.phase))
