@@ -129,6 +129,13 @@ turns_add_their_line way heap paced old new command notes =
     stands_so Pressed stands = stands
 
 -- one line more is noted
-pub notes_one_more_line : (way : Allocating) (paced : Bool) (read : List Line) (line : Line) (old now new : PlayState) → NotesLines way paced read old now → NotesLine way paced now new line → NotesLines way paced (read ++ line ∷ []) old new
-notes_one_more_line way paced [] line old now new none notes = (new, subst (λ (s : PlayState). NotesLine way paced s new line) none notes, refl)
-notes_one_more_line way paced (first ∷ read) line old now new noted notes = (noted.0, noted.1, notes_one_more_line way paced read line noted.0 now new noted.2 notes)
+pub notes_one_more_line : {P : Type 0} (asks : P → ℕ → ℕ) (Comes : P → ℕ → P → Type 0) (way : Allocating) (pace mid last : Option P) (read : List Line) (line : Line) (old now new : PlayState)
+    → NotesLines asks Comes way pace mid read old now → NotesLine asks Comes way mid last now new line → NotesLines asks Comes way pace last (read ++ line ∷ []) old new
+notes_one_more_line {P} asks Comes way pace mid last [] line old now new none notes = (
+  last,
+  new,
+  subst (λ (p : Option P). NotesLine asks Comes way p last old new line) none.1 (subst (λ (s : PlayState). NotesLine asks Comes way mid last s new line) none.0 notes),
+  (refl, refl),
+)
+notes_one_more_line asks Comes way pace mid last (first ∷ read) line old now new noted notes =
+    (noted.0, noted.1, noted.2, notes_one_more_line asks Comes way noted.0 mid last read line noted.1 now new noted.3 notes)

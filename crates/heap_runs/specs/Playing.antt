@@ -1,5 +1,5 @@
 -- A play that has answered some lines of its script, and one whose seats have left.
-use Rattle.std.specs.Prelude.{◌≡◌, ℕ, ◌<◌, ◌≤◌, ◌%◌, ◌==◌, Bool, true, false, List, [], ◌∷◌, ◌++◌, length, Option, None, Some, is_some}
+use Rattle.std.specs.Prelude.{◌≡◌, ℕ, ◌<◌, ◌≤◌, ◌%◌, ◌==◌, Bool, true, false, List, [], ◌∷◌, ◌++◌, length, take, Option, None, Some, IsSomeAnd, option_map}
 use Rattle.std.specs.List.{flat_map, range_with_len}
 use Rattle.heap_model.specs.declared.heap.Heap.{Heap}
 use Rattle.heap_model.specs.declared.command.Command.{Command}
@@ -12,6 +12,7 @@ use Rattle.heap_model.specs.PhasePlan.{cycle_phases, rest}
 use Rattle.heap_model.specs.account.PhaseCounts.{phase, has_left}
 use Rattle.heap_model.specs.calls.SeatCalls.{leave_entries}
 use Rattle.heap_model.specs.calls.SeatState.{own_graph_seat}
+use Rattle.reply_text.specs.declared.history.History.{History}
 use Rattle.script_text.specs.declared.script.Line.{Line}
 use Rattle.script_text.specs.declared.script.Line.TheVariants as lines
 use Rattle.heap_record.specs.Recorded.{claimed_by}
@@ -59,15 +60,37 @@ pub record NotesTurns (old new : PlayState) (command : TurnCommand) : Type 0 whe
   pub serves : ServesCommand old now command reply
   pub noted : new ≡ record now { entries = now.entries ++ Turned command reply ∷ [] }
 
--- the line was answered: a seat's with what a pace asked for, where there is one
-abbrev pub NotesLine : Allocating → Bool → PlayState → PlayState → Line → Type 0
-NotesLine way paced old new (lines.Seat number command) = (asks : Option (ℕ → ℕ)) × (is_some asks ≡ paced) × NotesSeatLine way asks old new number command
-NotesLine way paced old new (lines.Turns command) = NotesTurns old new command
+-- what became of a pace that was asked by what was claimed; without one there is none
+abbrev pub PaceComes : {P : Type 0} → (P → ℕ → P → Type 0) → ℕ → Option P → Option P → Type 0
+PaceComes Comes claimed (Some before) (Some after) = Comes before claimed after
+PaceComes Comes claimed None None = Unit {0}
+PaceComes Comes claimed _ _ = ⊥
 
--- so were these lines, one after another
-abbrev pub NotesLines : Allocating → Bool → List Line → PlayState → PlayState → Type 0
-NotesLines way paced [] old new = new ≡ old
-NotesLines way paced (line ∷ more) old new = (now : PlayState) × NotesLine way paced old now line × NotesLines way paced more now new
+-- a seat's command was made in this way, behind it what its pace asked for, where there is one, and this became of the pace
+abbrev pub NotesPacedLine : {P : Type 0} → (P → ℕ → ℕ) → (P → ℕ → P → Type 0) → Allocating → Option P → Option P → PlayState → PlayState → ℕ → Command → Type 0
+NotesPacedLine asks Comes way before after old new number command =
+    (line : NotesSeatLine way (option_map asks before) old new number command) × PaceComes Comes (claimed_by line.calls.added) before after
+
+-- the line was answered: a seat's with what its pace asked for, the collector's without it
+abbrev pub NotesLine : {P : Type 0} → (P → ℕ → ℕ) → (P → ℕ → P → Type 0) → Allocating → Option P → Option P → PlayState → PlayState → Line → Type 0
+NotesLine asks Comes way before after old new (lines.Seat number command) = NotesPacedLine asks Comes way before after old new number command
+NotesLine asks Comes way before after old new (lines.Turns command) = (after ≡ before) × NotesTurns old new command
+
+-- so were these lines, one after another, each with what became of the pace by those before it
+abbrev pub NotesLines : {P : Type 0} → (P → ℕ → ℕ) → (P → ℕ → P → Type 0) → Allocating → Option P → Option P → List Line → PlayState → PlayState → Type 0
+NotesLines asks Comes way pace last [] old new = (new ≡ old) × (last ≡ pace)
+NotesLines {P} asks Comes way pace last (line ∷ more) old new =
+    (after : Option P) × (now : PlayState) × NotesLine asks Comes way pace after old now line × NotesLines asks Comes way after last more now new
+
+-- so were all of them, with this pace at first
+abbrev pub NotesAllLines : {P : Type 0} → (P → ℕ → ℕ) → (P → ℕ → P → Type 0) → Allocating → Option P → List Line → PlayState → PlayState → Type 0
+NotesAllLines {P} asks Comes way pace lines old new = (last : Option P) × NotesLines asks Comes way pace last lines old new
+
+-- the entries before the mark are those with which the lines were answered so
+pub record IsAnsweredSo (Notes : PlayState → Type 0) (history : History) : Type 0 where
+  pub answered : PlayState
+  pub notes : Notes answered
+  pub front : IsSomeAnd history.mark (λ mark. take mark.before history.entries ≡ answered.entries)
 
 -- the seat hasn't left
 abbrev pub IsThere : PlayState → ℕ → Type 0

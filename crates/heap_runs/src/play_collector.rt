@@ -55,6 +55,7 @@ pub fn make_slack<H: PlayHeap>(whole: H, pace: &mut Box<dyn Pace>, claimed: u64)
     requires { slack_room ≤ (H.state whole).spare }
     ensures adds { AddsTurns (H.state whole) (H.state result.0) }
     ensures asked { result.1.asked ≡ asks pace.old claimed }
+    ensures came { came pace.old claimed (kept pace.new) }
     ensures most { result.1.made ≤ result.1.asked }
     ensures fewer { result.1.made < result.1.asked → HasWaited result.1.last }
     ensures each { MakesEach TakesTurn result.1.made (H.state whole) (H.state result.0) }

@@ -1,4 +1,4 @@
-ghost use Rattle.std.specs.Prelude.{◌≡◌, true, [], length, is_some, option_map, IfOk, OnOk};
+ghost use Rattle.std.specs.Prelude.{◌≡◌, true, [], length, is_some, IfOk, OnOk};
 ghost use Rattle.std.specs.List.{AllByRecursion};
 ghost use Rattle.script_text.specs.declared.script.Form.TheVariants.{Play};
 ghost use Rattle.script_text.specs.Preamble.{usual_board};
@@ -7,7 +7,7 @@ ghost use Rattle.reply_text.specs.Written.{HasText};
 ghost use Rattle.heap_runs.specs.Play.{IsPlay, IsPlayThat, StandForEach};
 ghost use Rattle.heap_runs.specs.PlayHeap.{MayCall};
 ghost use Rattle.heap_runs.specs.Pressed.{StandsByWay, IsPressedPlay};
-ghost use Rattle.heap_runs.specs.Playing.{NotesSeatLine, NotesLines, IsPlaying, HaveLeft, AllHaveLeft, NotesLastCycle};
+ghost use Rattle.heap_runs.specs.Playing.{NotesPacedLine, NotesAllLines, IsAnsweredSo, IsPlaying, HaveLeft, AllHaveLeft, NotesLastCycle};
 
 use crate::play_heap::PlayHeap;
 use crate::playing::making::{Allocating, make_command};
@@ -34,7 +34,7 @@ fn answer_seat_line<H: PlayHeap + Drop>(
     pace: &mut Option<Box<dyn Pace>>,
 ) -> Result<H, Memory>
     requires { MayCall (H.state whole) seat command.now }
-    ensures notes { IfOk result (λ now. NotesSeatLine way (option_map (λ pace. asks pace) pace.old) (H.state whole) (H.state now) seat command.now) }
+    ensures notes { IfOk result (λ now. NotesPacedLine (λ pace. asks pace) (λ before claimed after. came before claimed (kept after)) way pace.old pace.new (H.state whole) (H.state now) seat command.now) }
     ensures pace { is_some pace.new ≡ is_some pace.old }
 {
     let before = whole.entries().len();
@@ -60,7 +60,7 @@ fn answer_lines<H: PlayHeap + Drop>(
     requires heap { (H.state whole).heap ≡ script.now.heap }
     requires fresh { (H.state whole).entries ≡ [] }
     ensures plays { IfOk result (λ now. IsPlaying script.now.heap (H.state now) (length script.now.lines)) }
-    ensures notes { IfOk result (λ now. NotesLines way (is_some pace) script.now.lines (H.state whole) (H.state now)) }
+    ensures notes { IfOk result (λ now. NotesAllLines (λ pace. asks pace) (λ before claimed after. came before claimed (kept after)) way pace script.now.lines (H.state whole) (H.state now)) }
     ensures answered { IfOk result (λ now. StandForEach (StandsByWay way script.now.heap (is_some pace)) [] script.now.lines (H.state now).entries) }
 {
     seat_laws();
@@ -112,6 +112,7 @@ fn play_by<H: PlayHeap + Drop>(
     requires heap { heap ≡ script.now.heap }
     requires fresh { (H.state whole).entries ≡ [] }
     ensures played { IfOk result (IsPlayThat (StandForEach (StandsByWay way script.now.heap (is_some pace)) []) script.now) }
+    ensures slack { IfOk result (IsAnsweredSo (NotesAllLines (λ pace. asks pace) (λ before claimed after. came before claimed (kept after)) way pace script.now.lines (H.state whole))) }
     ensures spelled { IfOk result (λ history. AllByRecursion (HasText history.version) history.entries) }
     ensures board { IfOk result (λ history. history.version ≡ 1 → history.heap.board ≡ usual_board) }
 {
@@ -149,6 +150,7 @@ pub fn play<H: PlayHeap + Drop>(
     requires heap { heap ≡ script.now.heap }
     requires form { IsOfForm Play script.now }
     ensures played { IfOk result (IsPlay (is_some pace) script.now) }
+    ensures slack { IfOk result (IsAnsweredSo (NotesAllLines (λ pace. asks pace) (λ before claimed after. came before claimed (kept after)) Allocating.Once pace script.now.lines (H.state whole))) }
     ensures spelled { IfOk result (λ history. AllByRecursion (HasText history.version) history.entries) }
     ensures board { IfOk result (λ history. history.version ≡ 1 → history.heap.board ≡ usual_board) }
 {
@@ -167,6 +169,7 @@ pub fn play_pressed<W: PlayHeap + Drop>(
     requires fresh { (W.state whole).entries ≡ [] }
     requires form { IsOfForm Play script.now }
     ensures played { IfOk result (IsPressedPlay (is_some pace) script.now) }
+    ensures slack { IfOk result (IsAnsweredSo (NotesAllLines (λ pace. asks pace) (λ before claimed after. came before claimed (kept after)) Allocating.Pressed pace script.now.lines (W.state whole))) }
     ensures spelled { IfOk result (λ history. AllByRecursion (HasText history.version) history.entries) }
     ensures board { IfOk result (λ history. history.version ≡ 1 → history.heap.board ≡ usual_board) }
 {

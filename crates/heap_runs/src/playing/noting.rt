@@ -25,6 +25,7 @@ pub fn note_slack<H: PlayHeap + Drop>(
     claimed: u64,
 ) -> Result<H, Memory>
     ensures notes { IfOk result (λ now. NotesSlack (asks pace.old claimed) (H.state whole) (H.state now)) }
+    ensures came { OnOk result (came pace.old claimed (kept pace.new)) }
 {
     whole.room(MOST_SLACK_TURNS as usize + 2)?;
     let (whole, _) = make_slack(whole, pace, claimed);
