@@ -1,7 +1,4 @@
-ghost use Rattle.std.specs.Prelude.{IsTrue, IfOk};
-ghost use Rattle.heap_model.specs.calls.SeatCalls.{IsReady};
-ghost use Rattle.core_machine.specs.seat.Commands.{IsServed};
-ghost use Rattle.mutator_seat.specs.Resting.{seat_state};
+ghost use Rattle.std.specs.Prelude.{IfOk};
 ghost use Rattle.heap_caller.specs.Parties.{StaysSeat, StaysCollector};
 
 use crate::opening::Parties;
@@ -17,23 +14,12 @@ const RECORDS: u32 = 20;
 /// More turns than are made beside that.
 const MANY: u32 = 100_000_000;
 
-/// Whether the seat may be called by the command.
-fn may_call(seat: &Seat, command: &Command) -> bool
-    ensures ready { IsTrue result → IsReady (seat_state seat.now) command.now }
-    ensures served { IsTrue result → IsServed command.now }
-{
-    let room = 2 * command.need() as usize + 4;
-    let counts = seat.names_left() > 0 && seat.sets_left() > 0;
-    let served = !matches!(command, Command::Collect) && command.is_in_range();
-    served && !seat.left() && seat.spare() >= room && counts
-}
-
 /// What the seat is answered to the command, where it may be called; it has room for what it tells.
 fn call(seat: &mut Seat, command: &Command) -> Result<Option<Reply>, Memory>
     ensures { StaysSeat seat.old seat.new }
 {
     seat.room(100)?;
-    if !may_call(seat, command) {
+    if !seat.may_call(command) {
         return Ok(None);
     }
     Ok(Some(seat.call(command)))

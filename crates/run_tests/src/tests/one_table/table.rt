@@ -1,9 +1,7 @@
 //! The seats and the collector of one table, which one thread lets work.
 
 ghost use Rattle.std.specs.Prelude.{IfOk, IsTrue};
-ghost use Rattle.core_machine.specs.seat.Commands.{IsServed};
 ghost use Rattle.heap_model.specs.Heap.{IsHeap};
-ghost use Rattle.heap_model.specs.calls.SeatCalls.{IsReady};
 ghost use Rattle.mutator_seat.specs.InnerCalls.{MayCollect};
 ghost use Rattle.mutator_seat.specs.Resting.{seat_state};
 
@@ -36,24 +34,10 @@ fn note(told: &mut Vec<Entry>, log: &[Entry], before: usize) -> Result<(), Memor
     Ok(())
 }
 
-/// Whether the seat may be called by the command.
-fn may_call(seat: &Seat, command: &Command) -> bool
-    ensures ready { IsTrue result → IsReady (seat_state seat.now) command.now }
-    ensures served { IsTrue result → IsServed command.now }
-{
-    let room = 2 * command.need() as usize + 4;
-    let counts = seat.names_left() > 0 && seat.sets_left() > 0;
-    !matches!(command, Command::Collect)
-        && command.is_in_range()
-        && !seat.left()
-        && seat.spare() >= room
-        && counts
-}
-
 /// Makes a whole call of the seat, if it may be made.
 fn call_seat(seat: &mut Seat, command: &Command) -> Result<(), Memory> {
     seat.room(2 * command.need() as usize + 4)?;
-    if may_call(seat, command) {
+    if seat.may_call(command) {
         seat.call(command);
     }
     Ok(())

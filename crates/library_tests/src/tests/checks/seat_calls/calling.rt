@@ -12,7 +12,7 @@ use heap_model::{
 };
 use mutator_seat::Seat;
 
-/// Whether the seat may be called by the command.
+/// Whether any seat may be called by the command, by what the trait tells.
 pub fn may_call<S: SeatCalls>(seat: &S, command: &Command) -> bool
     ensures ready { IsTrue result → IsReady (S.state seat.now) command.now }
     ensures served { IsTrue result → IsServed command.now }
@@ -32,7 +32,7 @@ pub fn called<L: ShowsLast>(
     ensures { IsSameSeat seat.old seat.new }
 {
     seat.room(room)?;
-    if !may_call(seat, command) {
+    if !seat.may_call(command) {
         return Ok(None);
     }
     Ok(Some(seat.call(command)))
