@@ -1,5 +1,6 @@
 //! Runs: each seat works on a thread of its own, so what comes differs from run to run. Each history is checked, and behind one lock judged in full as a run.
 
+mod asking;
 mod collecting;
 mod gates;
 mod judging;
@@ -15,7 +16,6 @@ use crate::status::Status;
 use gates::{OneAfterTheOther, TwoAtOnce};
 use heap_model::{Gate, OpenGate};
 use judging::{has_a_row, has_all, judge};
-use paced::Paced;
 use past_pace::PastThePace;
 use script_text::Cause;
 use slack_pace::Paces;
@@ -94,51 +94,6 @@ fn shares_a_field(rt: HostRuntime) -> Result<(), Fail> {
         let gate = TwoAtOnce::new();
         tells_a_row(&rt, rt.alloc(), line, script, &gate, &SHARED)?;
         holds(&rt, gate.met(3), &line);
-    }
-    Ok(())
-}
-
-/// A script, how much is claimed in all before each command of seat 0, how many commands seat 1 has, and how a line begins that is told.
-type Claim = (&'static str, &'static [u64], u64, &'static str);
-
-// Seat 0 goes on to each of its commands only once the pace was asked anew, and then in all with what it has claimed so far: nothing, and the five fragments of group 0. In
-// the second script the collect sees a whole cycle, so seat 1, which never polls, has left by then: held back until the pace was asked a thousand times, while seat 0 finds it
-// behind. The pace is asked further behind that leave.
-const CLAIMS: [Claim; 2] = [
-    (
-        "schism 1; heap 1 0 1; 0 new 1 2; 0 poll",
-        &[0, 5],
-        0,
-        "\n0 new 1 2 = 0.0",
-    ),
-    (
-        "schism 1; heap 1 0 2; 0 collect; 0 new 1 2; 0 poll; 1 nil 1",
-        &[0, 0, 5],
-        1,
-        "\n0 collect = cycle",
-    ),
-];
-
-/// Runs the script of a row at a pace that waits.
-fn asks_the_pace(
-    rt: &(impl Abort + Threads + Wait + Sync),
-    alloc: Global,
-    line: &str,
-    &(script, claims, others, reply): &Claim,
-) -> Result<(), Fail> {
-    let gate = Paced::new(alloc, claims, 1000)?;
-    let history = told_by(rt, alloc, line, script, &gate, gate.paces(alloc)?)?;
-    judge_locked(rt, alloc, line, &history)?;
-    holds(rt, gate.was_right(others), &script);
-    holds(rt, has_all(&history, &[reply]), &script);
-    Ok(())
-}
-
-#[test]
-fn asks_the_pace_for_what_was_claimed(rt: HostRuntime) -> Result<(), Fail> {
-    for claim in &CLAIMS {
-        asks_the_pace(&rt, rt.alloc(), "run --patience 1000000", claim)?;
-        asks_the_pace(&rt, rt.alloc(), "run --locked --patience 1000000", claim)?;
     }
     Ok(())
 }

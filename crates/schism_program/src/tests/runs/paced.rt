@@ -71,10 +71,19 @@ impl Paced {
         })
     }
 
-    /// The paces of a run that the gate goes with.
+    /// The paces of a run that the gate goes with: the one that tells stands for the steady one.
     pub fn paces(&self, alloc: Global) -> Result<Paces, AllocError> {
         let telling = Telling(self.asked.clone()?);
         paces_by(alloc, Box::new(alloc, telling)?)
+    }
+
+    /// The same, where the one that tells stands for the debt.
+    pub fn paces_in_debt(&self, alloc: Global) -> Result<Paces, AllocError> {
+        let Paces { steady, debt } = self.paces(alloc)?;
+        Ok(Paces {
+            steady: debt,
+            debt: steady,
+        })
     }
 
     /// Whether the pace was asked so often more, and then with so much in all.
