@@ -21,11 +21,12 @@ use std::test::Fail;
 
 mod comparing;
 mod crews;
+mod gates;
 mod growing;
-mod meeting;
 mod one_table;
 mod opened;
 mod orders;
+mod paced;
 mod pacing;
 mod pressed;
 mod queue_texts;

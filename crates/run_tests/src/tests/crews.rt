@@ -5,11 +5,12 @@ ghost use Rattle.script_crew.specs.Jobs.{AreJobs, IsJob, command_count};
 ghost use Rattle.script_crew.specs.Runs.{job_numbers};
 
 use super::comparing::{holds, same};
-use super::meeting::Meeting;
+use super::gates::{FourSeats, TwoAtOnce};
 use super::opened::opened;
-use heap_model::{Command, Entry, Gate, Heap, Memory, OpenGate};
+use super::paced::Paced;
+use heap_model::{Command, Entry, Gate, Heap, Memory};
 use script_crew::{CrewRan, Job, JobRun, run_crew};
-use slack_pace::Steady;
+use slack_pace::{Pace, Steady};
 use std::alloc::Global;
 use std::process::Abort;
 use std::sync::Wait;
@@ -30,15 +31,15 @@ fn do_rise(jobs: &[Job]) -> bool
     true
 }
 
-/// A job that puts its number into a field of the board.
+/// A job that makes a record and sets a register to its number.
 fn job_of(alloc: Global, number: u32) -> Result<Job, Memory>
     requires { number < 1000 }
     ensures job { IfOk result IsJob }
     ensures commands { IfOk result (λ job. length job.commands.items ≡ 2) }
 {
     let mut commands = Vec::new(alloc);
+    commands.push(Command::New { d: 2, fields: 2 })?;
     commands.push(Command::Num { d: 1, n: number })?;
-    commands.push(Command::Set { r: 0, i: 0, v: 1 })?;
     Ok(Job { number, commands })
 }
 
@@ -62,13 +63,13 @@ fn ran_by<G: Gate, R: Threads + Wait + Sync>(
     alloc: Global,
     heap: Heap,
     jobs: &[Job],
+    pace: Box<dyn Pace>,
     gate: &G,
 ) -> Result<CrewRan, Memory>
     requires heap { IsHeap heap }
     requires some { 0 < length jobs.now }
     requires jobs { AreJobs jobs.now }
 {
-    let pace = Box::new(alloc, Steady)?;
     let (seats, collector) = opened(alloc, heap)?;
     run_crew(rt, alloc, seats, collector, jobs, pace, gate)
 }
@@ -147,7 +148,7 @@ fn each_is_run(
     Ok(())
 }
 
-/// A crew of so many seats runs them.
+/// A crew of so many seats runs them, and each seat comes to the gate with each of its commands.
 fn crew_runs_each<R: Abort + Threads + Wait + Sync>(
     rt: &R,
     alloc: Global,
@@ -158,7 +159,10 @@ fn crew_runs_each<R: Abort + Threads + Wait + Sync>(
     requires jobs { AreJobs jobs.now }
 {
     let heap = Heap::make(1, 0, count, 32).ok_or("a heap")?;
-    let ran = ran_by(rt, alloc, heap, jobs, &OpenGate)?;
+    let pace = Box::new(alloc, Steady)?;
+    let gate = FourSeats::new();
+    let ran = ran_by(rt, alloc, heap, jobs, pace, &gate)?;
+    same(rt, &gate.in_order(), &Some(18), &count);
     each_is_run(rt, alloc, &ran, jobs, count)
 }
 
@@ -171,13 +175,28 @@ fn each_job_is_run_once(rt: HostRuntime) -> Result<(), Fail> {
     Ok(())
 }
 
+// Each seat goes on to its second command only once the other one has come there too: so each of them runs one of the two jobs.
 #[test]
 fn two_at_once(rt: HostRuntime) -> Result<(), Fail> {
     let jobs = crew_jobs(&rt, 2)?;
     let heap = Heap::make(1, 0, 2, 32).ok_or("a heap")?;
-    let gate = Meeting::new();
-    let ran = ran_by(&rt, rt.alloc(), heap, jobs.as_slice(), &gate)?;
+    let pace = Box::new(rt.alloc(), Steady)?;
+    let gate = TwoAtOnce::new();
+    let ran = ran_by(&rt, rt.alloc(), heap, jobs.as_slice(), pace, &gate)?;
     same(&rt, &ran.runs.len(), &2, &"the runs");
-    holds(&rt, gate.met(), &"two seats at work");
+    holds(&rt, gate.met(2), &"two seats at work");
+    Ok(())
+}
+
+// The first command of seat 0 claims the five fragments that the board leaves. Seat 1 begins its job once the worker of seat 0 has come to its end.
+#[test]
+fn slack_goes_on(rt: HostRuntime) -> Result<(), Fail> {
+    let jobs = crew_jobs(&rt, 2)?;
+    let heap = Heap::make(1, 0, 2, 32).ok_or("a heap")?;
+    let gate = Paced::new(rt.alloc(), &[0, 5])?;
+    let pace = gate.pace(rt.alloc())?;
+    let ran = ran_by(&rt, rt.alloc(), heap, jobs.as_slice(), pace, &gate)?;
+    same(&rt, &ran.runs.len(), &2, &"the runs");
+    holds(&rt, gate.was_right(2), &"the slack");
     Ok(())
 }

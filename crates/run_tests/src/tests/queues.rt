@@ -1,11 +1,13 @@
-//! Queues on a shared table: what puts and takes come to on one seat and on two, that two are at work at once, and a heap with no room.
+//! Queues on a shared table: what puts and takes come to on one seat and on two, and a heap with no room.
 
 ghost use Rattle.std.specs.Prelude.{◌≡◌, IfOk};
 ghost use Rattle.heap_model.specs.Heap.{IsHeap};
 ghost use Rattle.heap_queue.specs.SeatScripts.{IsOfQueue};
 
+mod at_work;
+
 use super::comparing::{holds, same};
-use super::meeting::Meeting;
+use super::gates::FourSeats;
 use super::opened::opened;
 use heap_model::{Gate, Heap, Memory, OpenGate, Value};
 use heap_queue::{
@@ -57,29 +59,29 @@ fn told(alloc: Global, heap: Heap, ran: &QueueRan) -> Result<Vec<ToldCall>, Fail
 }
 
 /// What the puts and takes of the queue of this text come to.
-fn calls_of<R: Threads + Wait + Sync>(
+fn calls_of<G: Gate, R: Threads + Wait + Sync>(
     rt: &R,
     alloc: Global,
     text: &[u8],
+    gate: &G,
 ) -> Result<Vec<ToldCall>, Fail> {
     let script = script_of(alloc, text)?;
     let pace = Box::new(alloc, Steady)?;
-    let Ok(ran) = ran_by(rt, alloc, &script, pace, &OpenGate) else {
+    let Ok(ran) = ran_by(rt, alloc, &script, pace, gate) else {
         return Err("a run")?;
     };
     told(alloc, script.heap, &ran)
 }
 
 /// The fault of a run of the queue of this text, if it has one.
-fn fault_of<G: Gate, R: Threads + Wait + Sync>(
+fn fault_of<R: Threads + Wait + Sync>(
     rt: &R,
     alloc: Global,
     text: &[u8],
-    gate: &G,
 ) -> Result<Option<QueueFault>, Fail> {
     let script = script_of(alloc, text)?;
     let pace = Box::new(alloc, Steady)?;
-    Ok(ran_by(rt, alloc, &script, pace, gate).err())
+    Ok(ran_by(rt, alloc, &script, pace, &OpenGate).err())
 }
 
 /// A put of this number that came through.
@@ -142,18 +144,10 @@ const TOLD_ALONE: [ToldCall; 6] = [
 
 #[test]
 fn takes_what_it_put(rt: HostRuntime) -> Result<(), Fail> {
-    let calls = calls_of(&rt, rt.alloc(), ALONE)?;
+    let gate = FourSeats::new();
+    let calls = calls_of(&rt, rt.alloc(), ALONE, &gate)?;
     same(&rt, &calls.as_slice(), &TOLD_ALONE.as_slice(), &"one seat");
-    Ok(())
-}
-
-#[test]
-fn two_at_once(rt: HostRuntime) -> Result<(), Fail> {
-    let gate = Meeting::new();
-    let text = b"queue 1\nheap 4 0 2 2\n0 put 1\n1 take\n";
-    let fault = fault_of(&rt, rt.alloc(), text, &gate)?;
-    same(&rt, &fault, &None, &"a run");
-    holds(&rt, gate.met(), &"two seats at work");
+    same(&rt, &gate.in_order(), &Some(6), &"one seat");
     Ok(())
 }
 
@@ -162,7 +156,7 @@ fn no_room(rt: HostRuntime) -> Result<(), Fail> {
     // The board has all fragments of the heap.
     let text = b"queue 1\nheap 1 0 2 47\n0 put 1\n1 take\n";
     let wanted = QueueFault::Full { need: 1, found: 0 };
-    let fault = fault_of(&rt, rt.alloc(), text, &OpenGate)?;
+    let fault = fault_of(&rt, rt.alloc(), text)?;
     same(&rt, &fault, &Some(wanted), &"the fault");
     Ok(())
 }
@@ -197,7 +191,7 @@ fn puts_in_order(rt: &impl Abort, calls: &[ToldCall]) -> u32 {
 #[test]
 fn takes_in_the_order_of_puts(rt: HostRuntime) -> Result<(), Fail> {
     let text = passed_on(rt.alloc())?;
-    let calls = calls_of(&rt, rt.alloc(), text.as_slice())?;
+    let calls = calls_of(&rt, rt.alloc(), text.as_slice(), &OpenGate)?;
     let puts = puts_in_order(&rt, calls.as_slice());
     same(&rt, &puts, &200, &"the puts");
     Ok(())
