@@ -379,7 +379,7 @@ FODDERPAUSE_LOOK static inline fodderpause_made fodderpause_new_array_or_collect
 }
 
 /*
- * Makes turns, 256 in one go, until the cycle that is on has ended, and polls each seat that a turn waits for. It is for a thread that has the collector and all seats of the
+ * Makes turns, 256 in one go, until the cycle that is on has ended and so at most 255 of the next one, and polls each seat that a turn waits for. It is for a thread that has the collector and all seats of the
  * heap, in the order in which they were made. NO_PARTY, also where a seat is waited for that isn't there; ENTRIES_SPENT.
  */
 FODDERPAUSE_LOOK static inline uint32_t fodderpause_end_cycle(fodderpause_collector *collector, fodderpause_seat *seats, size_t count)
