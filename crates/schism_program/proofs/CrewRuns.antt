@@ -2,8 +2,8 @@
 use Rattle.std.proofs.Common.{◌≡◌, ◌==◌, ℕ, Bool, false, List, [], ◌∷◌, length, Option, refl, ap, subst, sym, ◌∙◌}
 use Rattle.std.specs.Prelude.{All, IsSomeAnd}
 use Rattle.std.proofs.lemmas.Bool.{eqb-false}
-use Rattle.std.proofs.lemmas.List.Elements.{All-get_or}
 use Rattle.heap_model.specs.declared.heap.Heap.{Heap}
+use Rattle.std.proofs.lemmas.List.Elements.{All-get_or}
 use Rattle.core_machine.specs.seat.Seat.{Seat}
 use Rattle.heap_table.specs.Closed.{ClosedTable}
 use Rattle.heap_table.specs.CollectorHeld.{CollectorHeld}
